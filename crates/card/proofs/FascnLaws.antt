@@ -1,0 +1,138 @@
+-- The laws of the FASC-N: what is packed unpacks to the same digits, and what unpacks packs to the same bytes.
+-- Assumes nothing.
+use mathlib.Core.Path.{_≡_, refl, sym, ap, _∙_}
+use mathlib.Core.Bool.{Bool, true, false, not, _&&_, and-eq-true-iff}
+use mathlib.Core.List.{List, [], _∷_}
+use Prim.Native.Nat.{ℕ, _^_, _<_}
+use native.Mathlib.Omega.{arith}
+use borrow.Author.Tests.{eqb-true, leb-true, eq-eqb}
+use lib.Dec.{eqb, leb}
+use lib.ListN.{length, getD}
+use lib.Seq.{ext-getD}
+use Rattle.card.specs.Range.{listOf, all, number}
+use Rattle.card.specs.Refusal.{refusalOf}
+use Rattle.card.specs.Fascn.{valueAt, oddAt, valuesIn, bytesOf, digitsIn, marksIn, decimalAt, checkOf, valuesOf, unpackRefusal, unpackAnswer, unpackOf, packRefusal, packAnswer, packOf, keyOf, sameBytes}
+use Rattle.card.specs.Characters.{checkDigits}
+use Rattle.card.proofs.RangeLaws.{all-at, all-of, length-listOf}
+use Rattle.card.proofs.NumberLaws.{number-lt}
+use Rattle.card.proofs.CharacterLaws.{values-bytes, odd-bytes, bytes-values}
+use Rattle.card.proofs.OrderLaws.{marks-values, digits-values, value-check, values-mod, check-digits, values-digits}
+
+length-values : (s : List ℕ) → length (valuesIn s) ≡ 40
+unfolding valuesIn
+length-values s = length-listOf 40 (valueAt s)
+
+length-bytes : (v : List ℕ) → length (bytesOf v) ≡ 25
+unfolding bytesOf
+length-bytes v = length-listOf 25 _
+
+-- the check value may be taken of the digits: where a mark is out of place, that refuses first
+pub unpack-is : (s : List ℕ) → length s ≡ 25
+    → unpackAnswer
+    (refusalOf
+    ((16, not (all 40 (oddAt s)))
+    ∷ (17, not (marksIn (valuesIn s) && all 32 (decimalAt (digitsIn (valuesIn s)))))
+    ∷ (18, not (eqb (getD (valuesIn s) 39 0) (checkDigits (digitsIn (valuesIn s)))))
+    ∷ []))
+    (digitsIn (valuesIn s))
+    ≡ unpackOf s
+unfolding unpackOf unpackRefusal
+unpack-is s e = go (marksIn (valuesIn s)) refl
+  where
+    go : (m : Bool) → marksIn (valuesIn s) ≡ m
+        → unpackAnswer
+        (refusalOf
+        ((16, not (all 40 (oddAt s)))
+        ∷ (17, not (marksIn (valuesIn s) && all 32 (decimalAt (digitsIn (valuesIn s)))))
+        ∷ (18, not (eqb (getD (valuesIn s) 39 0) (checkDigits (digitsIn (valuesIn s)))))
+        ∷ []))
+        (digitsIn (valuesIn s))
+        ≡ unpackOf s
+    go true p = rw (eq-eqb _ _ e, check-digits (valuesIn s) (length-values s) p)
+    go false p = rw (eq-eqb _ _ e, p)
+
+-- ---- what an accepted FASC-N passed
+
+pub record WellFormed (s : List ℕ) : Type 0 where
+  pub long : length s ≡ 25
+  pub odd : all 40 (oddAt s) ≡ true
+  pub placed : marksIn (valuesIn s) ≡ true
+  pub decimal : all 32 (decimalAt (digitsIn (valuesIn s))) ≡ true
+  pub check : getD (valuesIn s) 39 0 ≡ checkOf (valuesIn s)
+
+pub well-formed : (s : List ℕ) → unpackOf s .0 ≡ 0 → WellFormed s
+unfolding unpackOf unpackRefusal
+well-formed s p =
+    go (eqb (length s) 25) (all 40 (oddAt s)) (marksIn (valuesIn s)) (all 32 (decimalAt (digitsIn (valuesIn s)))) (eqb (getD (valuesIn s) 39 0) (checkOf (valuesIn s)))
+    refl refl refl refl refl p
+  where
+    go : (a b c d e : Bool) → eqb (length s) 25 ≡ a → all 40 (oddAt s) ≡ b → marksIn (valuesIn s) ≡ c → all 32 (decimalAt (digitsIn (valuesIn s))) ≡ d
+        → eqb (getD (valuesIn s) 39 0) (checkOf (valuesIn s)) ≡ e
+        → refusalOf ((15, not a) ∷ (16, not b) ∷ (17, not (c && d)) ∷ (18, not e) ∷ []) ≡ 0 → WellFormed s
+    go true true true true true pa pb pc pd pe q = record { long = eqb-true _ _ pa; odd = pb; placed = pc; decimal = pd; check = eqb-true _ _ pe }
+    go true true true true false pa pb pc pd pe q = absurd (omega arith)
+    go true true true false e pa pb pc pd pe q = absurd (omega arith)
+    go true true false d e pa pb pc pd pe q = absurd (omega arith)
+    go true false c d e pa pb pc pd pe q = absurd (omega arith)
+    go false b c d e pa pb pc pd pe q = absurd (omega arith)
+
+-- the digits that an accepted FASC-N unpacks to
+pub unpack-digits : (s : List ℕ) → unpackOf s .0 ≡ 0 → unpackOf s .1 ≡ digitsIn (valuesIn s)
+unfolding unpackOf
+unpack-digits s p = rw (eq-eqb _ _ p)
+
+-- ---- the two round trips
+
+-- packed from 32 digits, it unpacks to those digits
+pub pack-unpack : (d : List ℕ) → length d ≡ 32 → all 32 (decimalAt d) ≡ true → unpackOf (packOf d .1) ≡ (0, d)
+unfolding packOf packRefusal unpackOf unpackRefusal
+pack-unpack d n h =
+    let v : valuesIn (bytesOf (valuesOf d)) ≡ valuesOf d = values-bytes (valuesOf d) ∙ values-mod d n h in
+    rw (h, eq-eqb _ _ (length-bytes (valuesOf d)), odd-bytes (valuesOf d), v, marks-values d, digits-values d n, h, eq-eqb _ _ (value-check d))
+
+-- a FASC-N that unpacks packs to the same 25 bytes
+pub unpack-pack : (s : List ℕ) → ((k : ℕ) → k < 25 → getD s k 0 < 256) → unpackOf s .0 ≡ 0 → packOf (unpackOf s .1) ≡ (0, s)
+unfolding packOf packRefusal
+unpack-pack s b p =
+    let w = well-formed s p in
+    rw (
+      unpack-digits s p,
+      w .decimal,
+      values-digits (valuesIn s) (length-values s) (w .placed) (w .check),
+      bytes-values s (w .odd) (w .long) b,
+    )
+
+-- pack is injective on digits
+pub pack-injective : (d e : List ℕ) → length d ≡ 32 → length e ≡ 32 → all 32 (decimalAt d) ≡ true → all 32 (decimalAt e) ≡ true
+    → packOf d .1 ≡ packOf e .1 → d ≡ e
+pack-injective d e n m h k p =
+    ap (λ (r : ℕ × List ℕ). r .1) (sym (pack-unpack d n h) ∙ ap unpackOf p ∙ pack-unpack e m k)
+
+-- two FASC-Ns that unpack to the same digits are the same bytes
+pub unpack-injective : (s t : List ℕ) → ((k : ℕ) → k < 25 → getD s k 0 < 256) → ((k : ℕ) → k < 25 → getD t k 0 < 256)
+    → unpackOf s .0 ≡ 0 → unpackOf t .0 ≡ 0 → unpackOf s .1 ≡ unpackOf t .1 → s ≡ t
+unpack-injective s t bs bt p q e =
+    ap (λ (r : ℕ × List ℕ). r .1) (sym (unpack-pack s bs p) ∙ ap packOf e ∙ unpack-pack t bt q)
+
+-- ---- the key
+
+-- the key of unpacked digits is below 10 ^ 16
+pub key-lt : (s : List ℕ) → unpackOf s .0 ≡ 0 → keyOf (unpackOf s .1) < 10 ^ 16
+unfolding keyOf decimalAt
+key-lt s p =
+    rw (unpack-digits s p)
+    (number-lt 10 16 (λ k. getD (digitsIn (valuesIn s)) k 0)
+    (λ k h. omega (arith, leb-true (getD (digitsIn (valuesIn s)) k 0) 9 (all-at (decimalAt (digitsIn (valuesIn s))) 32 (well-formed s p .decimal) k (omega arith)))))
+
+-- ---- equality
+
+-- equal is equality of all bytes
+pub same-refl : (a : List ℕ) → sameBytes a a ≡ true
+unfolding sameBytes
+same-refl a = rw (eq-eqb (length a) (length a) refl) (all-of _ (length a) (λ i h. eq-eqb (getD a i 0) (getD a i 0) refl))
+
+pub same-bytes : (a b : List ℕ) → sameBytes a b ≡ true → a ≡ b
+unfolding sameBytes
+same-bytes a b p =
+    let q = and-eq-true-iff (eqb (length a) (length b)) (all (length a) (λ i. eqb (getD a i 0) (getD b i 0))) .0 p in
+    ext-getD 0 a b (eqb-true _ _ (q .0)) (λ i h. eqb-true _ _ (all-at (λ i. eqb (getD a i 0) (getD b i 0)) (length a) (q .1) i h))

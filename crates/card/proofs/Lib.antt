@@ -1,0 +1,6 @@
+pub mod RangeLaws
+pub mod NumberLaws
+pub mod CharacterLaws
+pub mod XorLaws
+pub mod OrderLaws
+pub mod FascnLaws

@@ -1,0 +1,26 @@
+-- `card::fascn::characters::all_odd` meets its contract: a turn adds its test. Assumes nothing.
+use mathlib.Core.Path.{_≡_}
+use Prim.Native.Nat.{_-_, _≤_}
+use native.Mathlib.Omega.{arith}
+use borrow.Author.Needs.{needs}
+use lib.ListN.{getD}
+use Rattle.card.specs.Range.{all}
+use Rattle.card.specs.Characters.{oddChar}
+use Rattle.card.proofs.RangeLaws.{all-more}
+use Rattle.card.proofs.fascn.characters.all_odd.Statement.{statement}
+use Rattle.card.proofs.fascn.characters.all_odd.Tie as tie
+
+abbrev Inv-loop : tie.InvT-loop
+Inv-loop c ok₀ i₀ ok i = (i ≤ 40) × (ok ≡ all i (λ j. oddChar (getD c j 0)))
+
+loop-again : tie.Need-loop-again Inv-loop (λ c ok₀ i₀ ok i. 40 - i)
+loop-again c = (search needs, all-more (λ j. oddChar (getD (c .before .before .before .before .args .c .now) j 0)) (c .before .before .before .loop .i) (c .before .before .before .loop .inv .1) (c .odd .ensures))
+
+returns : tie.Need-returns Inv-loop (λ c ok₀ i₀ ok i. 40 - i)
+returns c = let e : c .before .loop .i ≡ 40 = omega arith in rw e at (c .before .loop .inv .1)
+
+pub all-odd-spec : {M : Type 1} → statement M
+unfolding all
+all-odd-spec =
+    tie.close
+    (tie.spec Inv-loop (λ c ok₀ i₀ ok i. 40 - i) (λ c. search needs) (λ c. search needs) (λ c κs. search needs) (λ c. search needs) (λ c. search needs) loop-again returns)

@@ -1,0 +1,53 @@
+-- How the code goes about it: a character as one number of five bits, the bit sent first highest. No contract of a public function cites this.
+-- Assumes nothing.
+use mathlib.Core.Bool.{Bool}
+use mathlib.Core.List.{List, [], _∷_, _++_}
+use Prim.Native.Nat.{ℕ, suc, _+_, _-_, _*_, _/_, _%_, _^_}
+use lib.Bits.{bitXor}
+use lib.Dec.{eqb}
+use lib.ListN.{getD, take, drop}
+use Rattle.card.specs.Range.{listOf, run, number, xorOf}
+use Rattle.card.specs.Fascn.{charBit, valuesOf}
+
+-- The list l with n places from place at on written anew with f 0, f 1, .., f (n - 1).
+unfoldable pub written : List ℕ → ℕ → ℕ → (ℕ → ℕ) → List ℕ
+written l at n f = take at l ++ listOf n f ++ drop (at + n) l
+
+-- Bit p of the numbers s, each of m bits, the highest first.
+unfoldable pub bitOf : ℕ → List ℕ → ℕ → ℕ
+bitOf m s p = getD s (p / m) 0 / 2 ^ (m - suc (p % m)) % 2
+
+-- The bits of the numbers s, each of m bits, cut anew into numbers of n bits: number i of these.
+unfoldable pub recut : ℕ → ℕ → List ℕ → ℕ → ℕ
+recut m n s i = number 2 n (λ j. bitOf m s (n * i + j))
+
+-- The count of ones of a character is odd; its value; and the character of a value.
+abbrev pub oddChar : ℕ → Bool
+oddChar c = eqb ((c / 16 % 2 + c / 8 % 2 + c / 4 % 2 + c / 2 % 2 + c % 2) % 2) 1
+
+abbrev pub valueChar : ℕ → ℕ
+valueChar c = c / 16 % 2 + 2 * (c / 8 % 2) + 4 * (c / 4 % 2) + 8 * (c / 2 % 2)
+
+unfoldable pub charOf : ℕ → ℕ
+charOf x = number 2 5 (charBit x)
+
+-- The 40 characters of the bytes s, and those of the FASC-N with the digits d.
+unfoldable pub charsIn : List ℕ → List ℕ
+charsIn s = listOf 40 (recut 8 5 s)
+
+unfoldable pub charsOf : List ℕ → List ℕ
+charsOf d = listOf 40 (λ i. charOf (getD (valuesOf d) i 0))
+
+-- The 25 bytes of the 40 characters c.
+unfoldable pub bytesOfChars : List ℕ → List ℕ
+bytesOfChars c = listOf 25 (recut 5 8 c)
+
+-- The numbers e in the places of the digits, ss, fs and es in those of the marks, and check in the last.
+unfoldable pub inOrder : List ℕ → ℕ → ℕ → ℕ → ℕ → List ℕ
+inOrder e ss fs es check =
+    (ss ∷ run 0 4 e) ++ (fs ∷ run 4 4 e) ++ (fs ∷ run 8 6 e) ++ (fs ∷ run 14 1 e) ++ (fs ∷ run 15 1 e) ++ (fs ∷ run 16 16 e)
+    ++ (es ∷ check ∷ [])
+
+-- The exclusive or of the seven marks and the digits d.
+unfoldable pub checkDigits : List ℕ → ℕ
+checkDigits d = bitXor 9 (xorOf (listOf 32 (λ k. getD d k 0)))

@@ -1,0 +1,190 @@
+-- FASC-N (document 01, section FASC-N, after documents 000 and 003, TIG SCEPACS): what 25 bytes mean, and what unpack, pack and key give.
+-- Assumes nothing.
+use mathlib.Core.Bool.{Bool, true, false, cond, not, _&&_}
+use mathlib.Core.List.{List, [], _∷_, _++_}
+use Prim.Native.Nat.{ℕ, suc, _+_, _-_, _*_, _/_, _%_, _^_}
+use lib.Dec.{eqb, ltb, leb}
+use lib.ListN.{length, getD, take, replicate}
+use Rattle.card.specs.Range.{listOf, run, all, number, xorOf}
+use Rattle.card.specs.Refusal.{refusalOf}
+use Rattle.card.specs.declared.fascn.UnpackAnswer.{UnpackAnswer}
+use Rattle.card.specs.declared.fascn.UnpackAnswer.the-variants as unpack-answers
+use Rattle.card.specs.declared.fascn.PackAnswer.{PackAnswer}
+use Rattle.card.specs.declared.fascn.PackAnswer.the-variants as pack-answers
+use Rattle.card.specs.declared.fascn.Unpacked.{Unpacked}
+use Rattle.card.specs.declared.fascn.Packed.{Packed}
+
+-- ---- bits and characters
+
+-- 25 bytes are 200 bits, highest bit of each byte first: bit p of the bytes s.
+unfoldable pub bitAt : List ℕ → ℕ → ℕ
+bitAt s p = getD s (p / 8) 0 / 2 ^ (7 - p % 8) % 2
+
+-- They are cut into 40 characters of 5 bits: four value bits, lowest first,
+unfoldable pub valueAt : List ℕ → ℕ → ℕ
+valueAt s i = bitAt s (5 * i) + 2 * bitAt s (5 * i + 1) + 4 * bitAt s (5 * i + 2) + 8 * bitAt s (5 * i + 3)
+
+-- then a bit making the count of ones odd.
+unfoldable pub oddAt : List ℕ → ℕ → Bool
+oddAt s i =
+    eqb ((bitAt s (5 * i) + bitAt s (5 * i + 1) + bitAt s (5 * i + 2) + bitAt s (5 * i + 3) + bitAt s (5 * i + 4)) % 2) 1
+
+-- The values of the 40 characters.
+unfoldable pub valuesIn : List ℕ → List ℕ
+valuesIn s = listOf 40 (valueAt s)
+
+-- The other way: bit j of the character with the value x, by the same rule.
+unfoldable pub charBit : ℕ → ℕ → ℕ
+charBit x j = cond (ltb j 4) (x / 2 ^ j % 2) ((1 + x % 2 + x / 2 % 2 + x / 4 % 2 + x / 8 % 2) % 2)
+
+-- Bit p of the characters with the values v, and the 25 bytes of these bits.
+unfoldable pub sentBit : List ℕ → ℕ → ℕ
+sentBit v p = charBit (getD v (p / 5) 0) (p % 5)
+
+unfoldable pub bytesOf : List ℕ → List ℕ
+bytesOf v = listOf 25 (λ k. number 2 8 (λ j. sentBit v (8 * k + j)))
+
+-- ---- the order of marks and digits
+
+-- A part of a FASC-N: a mark, which is one character with a fixed value, or a field of some digits.
+pub data Part : Type 0 where
+  mark : ℕ → Part
+  field : ℕ → Part
+
+-- Start sentinel, field separator and end sentinel.
+abbrev pub SS : Part
+SS = mark 11
+
+abbrev pub FS : Part
+FS = mark 13
+
+abbrev pub ES : Part
+ES = mark 15
+
+-- The fields, each with its count of digits.
+abbrev pub agency : Part
+agency = field 4
+
+abbrev pub system : Part
+system = field 4
+
+abbrev pub credential : Part
+credential = field 6
+
+abbrev pub series : Part
+series = field 1
+
+abbrev pub issue : Part
+issue = field 1
+
+abbrev pub person : Part
+person = field 10
+
+abbrev pub category : Part
+category = field 1
+
+abbrev pub organisation : Part
+organisation = field 4
+
+abbrev pub association : Part
+association = field 1
+
+-- Order: 39 characters, of which 32 are digits. The check character comes after them.
+abbrev pub order : List Part
+order =
+    SS ∷ agency ∷ FS ∷ system ∷ FS ∷ credential ∷ FS ∷ series ∷ FS ∷ issue ∷ FS ∷ person ∷ category ∷ organisation ∷ association
+    ∷ ES ∷ []
+
+-- The values of the parts ps, of which the first digit is number k of the digits d.
+unfoldable pub valuesFrom : ℕ → List Part → List ℕ → List ℕ
+valuesFrom k [] d = []
+valuesFrom k (mark m ∷ ps) d = m ∷ valuesFrom k ps d
+valuesFrom k (field n ∷ ps) d = run k n d ++ valuesFrom (k + n) ps d
+
+-- The digits in the places of the parts ps, of which the first is character i of the values v.
+unfoldable pub digitsFrom : ℕ → List Part → List ℕ → List ℕ
+digitsFrom i [] v = []
+digitsFrom i (mark m ∷ ps) v = digitsFrom (suc i) ps v
+digitsFrom i (field n ∷ ps) v = run i n v ++ digitsFrom (i + n) ps v
+
+-- Each mark of the parts ps, of which the first is character i, stands in its place among the values v.
+unfoldable pub marksFrom : ℕ → List Part → List ℕ → Bool
+marksFrom i [] v = true
+marksFrom i (mark m ∷ ps) v = eqb (getD v i 0) m && marksFrom (suc i) ps v
+marksFrom i (field n ∷ ps) v = marksFrom (i + n) ps v
+
+abbrev pub digitsIn : List ℕ → List ℕ
+digitsIn v = digitsFrom 0 order v
+
+abbrev pub marksIn : List ℕ → Bool
+marksIn v = marksFrom 0 order v
+
+-- The number k of the digits d is at most 9.
+unfoldable pub decimalAt : List ℕ → ℕ → Bool
+decimalAt d k = leb (getD d k 0) 9
+
+-- The check value: the exclusive or of the 39 values before it.
+unfoldable pub checkOf : List ℕ → ℕ
+checkOf v = xorOf (take 39 v)
+
+-- The 40 values of the FASC-N with the digits d.
+unfoldable pub valuesOf : List ℕ → List ℕ
+valuesOf d = valuesFrom 0 order d ++ (checkOf (valuesFrom 0 order d) ∷ [])
+
+-- ---- what the calls give
+
+-- Unpack: 15 not 25 bytes; 16 parity in any character; 17 mark or digit out of place; 18 check character.
+unfoldable pub unpackRefusal : List ℕ → ℕ
+unpackRefusal s =
+    let v = valuesIn s in
+    refusalOf
+    ((15, not (eqb (length s) 25))
+    ∷ (16, not (all 40 (oddAt s)))
+    ∷ (17, not (marksIn v && all 32 (decimalAt (digitsIn v))))
+    ∷ (18, not (eqb (getD v 39 0) (checkOf v)))
+    ∷ [])
+
+-- The digits d beside the number n, or 32 zeros where n refuses.
+abbrev pub unpackAnswer : ℕ → List ℕ → ℕ × List ℕ
+unpackAnswer n d = (n, cond (eqb n 0) d (replicate 32 0))
+
+unfoldable pub unpackOf : List ℕ → ℕ × List ℕ
+unpackOf s = unpackAnswer (unpackRefusal s) (digitsIn (valuesIn s))
+
+-- Pack: 19 a digit above 9.
+unfoldable pub packRefusal : List ℕ → ℕ
+packRefusal d = refusalOf ((19, not (all 32 (decimalAt d))) ∷ [])
+
+-- The 25 bytes, or as many zeros where the digits are refused.
+abbrev pub packAnswer : ℕ → List ℕ → ℕ × List ℕ
+packAnswer n b = (n, cond (eqb n 0) b (replicate 25 0))
+
+unfoldable pub packOf : List ℕ → ℕ × List ℕ
+packOf d = packAnswer (packRefusal d) (bytesOf (valuesOf d))
+
+-- Document 01's key of a card: its first 16 digits as one whole number.
+unfoldable pub keyOf : List ℕ → ℕ
+keyOf d = number 10 16 (λ k. getD d k 0)
+
+-- Two FASC-Ns are equal where all their bytes are.
+unfoldable pub sameBytes : List ℕ → List ℕ → Bool
+sameBytes a b = eqb (length a) (length b) && all (length a) (λ i. eqb (getD a i 0) (getD b i 0))
+
+-- ---- the numbers of the answers
+
+abbrev pub unpackNumber : UnpackAnswer → ℕ
+unpackNumber unpack-answers.Accepted = 0
+unpackNumber unpack-answers.Length = 15
+unpackNumber unpack-answers.Parity = 16
+unpackNumber unpack-answers.Place = 17
+unpackNumber unpack-answers.Check = 18
+
+abbrev pub unpacked : Unpacked → ℕ × List ℕ
+unpacked r = (unpackNumber (r .answer), r .digits)
+
+abbrev pub packNumber : PackAnswer → ℕ
+packNumber pack-answers.Accepted = 0
+packNumber pack-answers.Digit = 19
+
+abbrev pub packed : Packed → ℕ × List ℕ
+packed r = (packNumber (r .answer), r .bytes)

@@ -1,0 +1,4 @@
+pub mod Range
+pub mod Refusal
+pub mod Fascn
+pub mod Characters

@@ -1,0 +1,31 @@
+-- Lists, tests and numbers made of f 0, f 1, .., f (n - 1).
+-- Assumes nothing.
+use mathlib.Core.Bool.{Bool, true, _&&_}
+use mathlib.Core.List.{List, [], _∷_, _++_}
+use Prim.Native.Nat.{ℕ, zero, suc, _+_, _*_}
+use lib.Bits.{bitXor}
+use lib.ListN.{getD}
+
+-- f 0, f 1, .., f (n - 1)
+unfoldable pub listOf : ℕ → (ℕ → ℕ) → List ℕ
+listOf zero f = []
+listOf (suc n) f = listOf n f ++ (f n ∷ [])
+
+-- the n numbers of l from place i on
+unfoldable pub run : ℕ → ℕ → List ℕ → List ℕ
+run i n l = listOf n (λ j. getD l (i + j) 0)
+
+-- the test f passes at each number below n
+unfoldable pub all : ℕ → (ℕ → Bool) → Bool
+all zero f = true
+all (suc n) f = all n f && f n
+
+-- the digits f 0, f 1, .., f (n - 1) to the base b as one number, f 0 the highest
+unfoldable pub number : ℕ → ℕ → (ℕ → ℕ) → ℕ
+number b zero f = 0
+number b (suc n) f = number b n f * b + f n
+
+-- the exclusive or of the numbers of a list
+unfoldable pub xorOf : List ℕ → ℕ
+xorOf [] = 0
+xorOf (x ∷ l) = bitXor x (xorOf l)

@@ -1,0 +1,155 @@
+// The FASC-N of a card: 25 bytes unpacked to 32 digits, packed from them, and compared (document 01, section FASC-N).
+mod characters;
+mod order;
+
+ghost use mathlib.Core.Path.{_≡_};
+ghost use mathlib.Core.Bool.{not};
+ghost use mathlib.Core.List.{[], _∷_};
+ghost use Rattle.card.specs.Refusal.{refusalOf};
+ghost use Rattle.card.specs.Fascn.{unpackNumber, packNumber, unpacked, packed, unpackAnswer, unpackOf, packOf, keyOf, sameBytes};
+
+// What unpack answers: the digits, or the first fault of document 01's list. `unpackNumber` gives the number of each.
+pub enum UnpackAnswer {
+    Accepted,
+    Length,
+    Parity,
+    Place,
+    Check,
+}
+
+impl UnpackAnswer {
+    // Document 01's number of the answer, 0 where the bytes are accepted.
+    pub fn number(self) -> u8
+        ensures { λ r. ⌜ r ≡ unpackNumber self ⌝ }
+    {
+        match self {
+            UnpackAnswer::Accepted => 0,
+            UnpackAnswer::Length => 15,
+            UnpackAnswer::Parity => 16,
+            UnpackAnswer::Place => 17,
+            UnpackAnswer::Check => 18,
+        }
+    }
+}
+
+// The 32 digits beside the answer; zeros where the bytes are refused.
+pub struct Unpacked {
+    pub answer: UnpackAnswer,
+    pub digits: [u8; 32],
+}
+
+// What pack answers: the bytes, or that a digit is above 9. `packNumber` gives the number of each.
+pub enum PackAnswer {
+    Accepted,
+    Digit,
+}
+
+impl PackAnswer {
+    // Document 01's number of the answer, 0 where the digits are accepted.
+    pub fn number(self) -> u8
+        ensures { λ r. ⌜ r ≡ packNumber self ⌝ }
+    {
+        match self {
+            PackAnswer::Accepted => 0,
+            PackAnswer::Digit => 19,
+        }
+    }
+}
+
+// The 25 bytes beside the answer; zeros where the digits are refused.
+pub struct Packed {
+    pub answer: PackAnswer,
+    pub bytes: [u8; 25],
+}
+
+// Document 01's key of a card: its first 16 digits as one whole number. A type of its own, so that no other number is taken for one.
+pub struct Key(pub u64);
+
+// The answer for 25 bytes: the tests on their characters in document 01's order, and the digits where all are passed.
+fn judged(odd: bool, placed: bool, checked: bool, digits: [u8; 32]) -> Unpacked
+    ensures { λ r. ⌜ unpacked r ≡ unpackAnswer (refusalOf ((16, not odd) ∷ (17, not placed) ∷ (18, not checked) ∷ [])) digits ⌝ }
+{
+    if !odd {
+        return Unpacked {
+            answer: UnpackAnswer::Parity,
+            digits: [0; 32],
+        };
+    }
+    if !placed {
+        return Unpacked {
+            answer: UnpackAnswer::Place,
+            digits: [0; 32],
+        };
+    }
+    if !checked {
+        return Unpacked {
+            answer: UnpackAnswer::Check,
+            digits: [0; 32],
+        };
+    }
+    Unpacked {
+        answer: UnpackAnswer::Accepted,
+        digits,
+    }
+}
+
+// The 32 digits of a FASC-N, or the first fault of the bytes.
+pub fn unpack(s: &[u8]) -> Unpacked
+    ensures { λ r. ⌜ unpacked r ≡ unpackOf (now (s .entry)) ⌝ }
+{
+    if s.len() != 25 {
+        return Unpacked {
+            answer: UnpackAnswer::Length,
+            digits: [0; 32],
+        };
+    }
+    let c = characters::characters_in(s);
+    let v = characters::values_in(&c);
+    let d = order::digits_in(&v);
+    let odd = characters::all_odd(&c);
+    let placed = order::marks_in(&v) & order::all_decimal(&d);
+    let checked = v[39] == order::check_value(&d);
+    judged(odd, placed, checked, d)
+}
+
+// The 25 bytes of the FASC-N with the digits d, or that one of them is above 9.
+pub fn pack(d: [u8; 32]) -> Packed
+    ensures { λ r. ⌜ packed r ≡ packOf d ⌝ }
+{
+    if !order::all_decimal(&d) {
+        return Packed {
+            answer: PackAnswer::Digit,
+            bytes: [0; 25],
+        };
+    }
+    let c = order::codes_of(&d);
+    Packed {
+        answer: PackAnswer::Accepted,
+        bytes: characters::bytes_of(&c),
+    }
+}
+
+// The key of the card with the digits d.
+pub fn key_of(d: [u8; 32]) -> Key
+    ensures { λ r. ⌜ r .0 ≡ keyOf d ⌝ }
+{
+    let mut n = 0u64;
+    for k in 0..16 {
+        n = n * 10 + characters::wide(d[k]);
+    }
+    Key(n)
+}
+
+// Two FASC-Ns are equal where all their bytes are. Every byte is looked at, so the time does not tell where they differ.
+pub fn equal(a: &[u8], b: &[u8]) -> bool
+    ensures { λ r. ⌜ r ≡ sameBytes (now (a .entry)) (now (b .entry)) ⌝ }
+{
+    if a.len() != b.len() {
+        return false;
+    }
+    let mut same = true;
+    for i in 0..a.len() {
+        same = same & (a[i] == b[i]);
+    }
+    same
+}
