@@ -5,6 +5,7 @@ mod order;
 ghost use mathlib.Core.Path.{_≡_};
 ghost use mathlib.Core.Bool.{not};
 ghost use mathlib.Core.List.{[], _∷_};
+ghost use lib.Dec.{eqb};
 ghost use Rattle.card.specs.Refusal.{refusalOf};
 ghost use Rattle.card.specs.Fascn.{unpackNumber, packNumber, unpacked, packed, unpackAnswer, unpackOf, packOf, keyOf, sameBytes};
 
@@ -66,8 +67,8 @@ pub struct Packed {
 pub struct Key(pub u64);
 
 // The answer for 25 bytes: the tests on their characters in document 01's order, and the digits where all are passed.
-fn judged(odd: bool, placed: bool, checked: bool, digits: [u8; 32]) -> Unpacked
-    ensures { λ r. ⌜ unpacked r ≡ unpackAnswer (refusalOf ((16, not odd) ∷ (17, not placed) ∷ (18, not checked) ∷ [])) digits ⌝ }
+fn judged(odd: bool, placed: bool, check: u8, expected: u8, digits: [u8; 32]) -> Unpacked
+    ensures { λ r. ⌜ unpacked r ≡ unpackAnswer (refusalOf ((16, not odd) ∷ (17, not placed) ∷ (18, not (eqb check expected)) ∷ [])) digits ⌝ }
 {
     if !odd {
         return Unpacked {
@@ -81,7 +82,7 @@ fn judged(odd: bool, placed: bool, checked: bool, digits: [u8; 32]) -> Unpacked
             digits: [0; 32],
         };
     }
-    if !checked {
+    if check != expected {
         return Unpacked {
             answer: UnpackAnswer::Check,
             digits: [0; 32],
@@ -108,8 +109,7 @@ pub fn unpack(s: &[u8]) -> Unpacked
     let d = order::digits_in(&v);
     let odd = characters::all_odd(&c);
     let placed = order::marks_in(&v) & order::all_decimal(&d);
-    let checked = v[39] == order::check_value(&d);
-    judged(odd, placed, checked, d)
+    judged(odd, placed, v[39], order::check_value(&d), d)
 }
 
 // The 25 bytes of the FASC-N with the digits d, or that one of them is above 9.
