@@ -1,16 +1,30 @@
 -- `card::fascn::judged` meets its contract: each return is where the tests before it are passed. Assumes nothing.
-use borrow.Author.Tests.{eq-eqb, ne-eqb}
+use mathlib.Core.Path.{_≡_}
+use mathlib.Core.Bool.{true, false}
+use borrow.Author.Tests.{eq-eqb, ne-eqb, not-true, not-false}
 use Rattle.card.proofs.fascn.judged.Statement.{statement}
 use Rattle.card.proofs.fascn.judged.Tie as tie
 
+returns : tie.Need-returns
+returns c = let odd : c .before .args .odd ≡ false = not-true _ (c .if1 .taken) in rw odd
+
 returns-2 : tie.Need-returns-2
-returns-2 c = rw (c .before .if1 .left, c .if2 .taken)
+returns-2 c =
+    let odd : c .before .before .args .odd ≡ true = not-false _ (c .before .if1 .left) in
+    let placed : c .before .before .args .placed ≡ false = not-true _ (c .if2 .taken) in
+    rw (odd, placed)
 
 returns-3 : tie.Need-returns-3
-returns-3 c = rw (c .before .before .if1 .left, c .before .if2 .left, ne-eqb _ _ (c .if3 .taken))
+returns-3 c =
+    let odd : c .before .before .before .args .odd ≡ true = not-false _ (c .before .before .if1 .left) in
+    let placed : c .before .before .before .args .placed ≡ true = not-false _ (c .before .if2 .left) in
+    rw (odd, placed, ne-eqb _ _ (c .if3 .taken))
 
 returns-4 : tie.Need-returns-4
-returns-4 c = rw (c .before .before .if1 .left, c .before .if2 .left, eq-eqb _ _ (c .if3 .left))
+returns-4 c =
+    let odd : c .before .before .before .args .odd ≡ true = not-false _ (c .before .before .if1 .left) in
+    let placed : c .before .before .before .args .placed ≡ true = not-false _ (c .before .if2 .left) in
+    rw (odd, placed, eq-eqb _ _ (c .if3 .left))
 
 pub judged-spec : {M : Type 1} → statement M
-judged-spec = tie.close (tie.spec (λ c. rw (c .if1 .taken)) returns-2 returns-3 returns-4)
+judged-spec = tie.close (tie.spec returns returns-2 returns-3 returns-4)

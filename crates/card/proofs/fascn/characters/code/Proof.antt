@@ -1,6 +1,10 @@
--- `card::fascn::characters::code` meets its contract: the sum is that of its five bits. Assumes nothing.
+-- `card::fascn::characters::code` meets its contract: the sum is the number of its five bits. Assumes nothing.
+use mathlib.Core.Path.{_≡_}
+use mathlib.Core.List.{[], _∷_}
+use Prim.Native.Nat.{ℕ, _+_, _*_, _/_, _%_}
 use native.Mathlib.Omega.{arith}
 use borrow.Author.Needs.{needs}
+use lib.ListN.{getD}
 use Rattle.card.specs.Range.{number}
 use Rattle.card.specs.Fascn.{charBit}
 use Rattle.card.specs.Characters.{charOf}
@@ -8,9 +12,15 @@ use native.Mathlib.Nat.{div-one}
 use Rattle.card.proofs.fascn.characters.code.Statement.{statement}
 use Rattle.card.proofs.fascn.characters.code.Tie as tie
 
+five : (a b c d p : ℕ) → 16 * a + 8 * b + 4 * c + 2 * d + p ≡ number 2 5 (λ j. getD (a ∷ b ∷ c ∷ d ∷ p ∷ []) j 0)
+unfolding number
+five a b c d p = omega arith
+
 returns : tie.Need-returns
 unfolding charOf charBit number
-returns c = rw div-one (omega arith)
+returns c =
+    let x = c .args .x in
+    rw div-one (five (x % 2) (x / 2 % 2) (x / 4 % 2) (x / 8 % 2) ((1 + x % 2 + x / 2 % 2 + x / 4 % 2 + x / 8 % 2) % 2))
 
 pub code-spec : {M : Type 1} → statement M
 code-spec = tie.close (tie.spec (λ c. search needs) (λ c. search needs) (λ c. search needs) (λ c. search needs) (λ c. search needs) (λ c. search needs) (λ c. search needs) (λ c. search needs) (λ c. search needs) (λ c. search needs) (λ c. search needs) (λ c. search needs) returns)
