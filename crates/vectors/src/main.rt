@@ -30,35 +30,23 @@ fn print_hex(s: &[u8]) {
     }
 }
 
-// The n digits of d from digit k on.
-fn print_field(d: [u8; 32], k: usize, n: usize)
-    requires { ⌜ k + n ≤ 32 ⌝ }
-{
-    for j in 0..n {
-        let text = [d[k + j] % 10 + 48];
-        print(&text);
-    }
-}
-
 // The digits by field: agency, system, credential, series, issue, person, category, organisation, association.
 fn print_digits(d: [u8; 32]) {
-    print_field(d, 0, 4);
-    print(b" ");
-    print_field(d, 4, 4);
-    print(b" ");
-    print_field(d, 8, 6);
-    print(b" ");
-    print_field(d, 14, 1);
-    print(b" ");
-    print_field(d, 15, 1);
-    print(b" ");
-    print_field(d, 16, 10);
-    print(b" ");
-    print_field(d, 26, 1);
-    print(b" ");
-    print_field(d, 27, 4);
-    print(b" ");
-    print_field(d, 31, 1);
+    for k in 0..32 {
+        if (k == 4)
+            | (k == 8)
+            | (k == 14)
+            | (k == 15)
+            | (k == 16)
+            | (k == 26)
+            | (k == 27)
+            | (k == 31)
+        {
+            print(b" ");
+        }
+        let text = [d[k] % 10 + 48];
+        print(&text);
+    }
 }
 
 // Bit p of 25 bytes, as the digit 0 or 1.
@@ -131,16 +119,10 @@ fn code_line(name: &[u8], x: u8, i: usize)
 
 // The 13 characters of figure 7, found by packing: the first digit, SS, the first FS and ES.
 fn codes() {
-    code_line(b"0", 0, 1);
-    code_line(b"1", 1, 1);
-    code_line(b"2", 2, 1);
-    code_line(b"3", 3, 1);
-    code_line(b"4", 4, 1);
-    code_line(b"5", 5, 1);
-    code_line(b"6", 6, 1);
-    code_line(b"7", 7, 1);
-    code_line(b"8", 8, 1);
-    code_line(b"9", 9, 1);
+    for x in 0u8..10 {
+        let name = [x + 48];
+        code_line(&name, x, 1);
+    }
     code_line(b"Start Sentinel", 0, 0);
     code_line(b"Field Separator", 0, 5);
     code_line(b"End Sentinel", 0, 38);
