@@ -1,13 +1,13 @@
 -- Characters: five bytes are eight of them, and each has the value and the parity that its bits say.
 -- Assumes nothing.
-use mathlib.Core.Path.{_≡_, refl, sym, ap, _∙_}
+use mathlib.Core.Path.{_≡_, sym, ap, _∙_}
 use mathlib.Core.Bool.{Bool, true, false, cond}
 use mathlib.Core.List.{List}
 use Prim.Native.Nat.{ℕ, zero, suc, _+_, _-_, _*_, _/_, _%_, _^_, _<_}
 use native.Mathlib.Nat.{mul-add, mul-assoc, add-assoc, mul-add-div, div-eq-of-lt, div-one, div-add-mod, add-zero, mul-add-mod-self-left, mod-eq-of-lt, mod-lt}
 use native.Mathlib.Omega.{arith}
 use borrow.Author.Tests.{eqb-true, eq-eqb}
-use lib.Dec.{ltb, eqb, lit<}
+use lib.Dec.{ltb, lit<}
 use lib.ListN.{length, getD}
 use Rattle.card.specs.Range.{listOf, all, number}
 use Rattle.card.specs.Fascn.{bitAt, valueAt, oddAt, valuesIn, charBit, sentBit, bytesOf, valuesOf}

@@ -6,12 +6,12 @@ use mathlib.Core.List.{List, [], _∷_}
 use Prim.Native.Nat.{ℕ, _^_, _<_}
 use native.Mathlib.Omega.{arith}
 use borrow.Author.Tests.{eqb-true, leb-true, eq-eqb}
-use lib.Dec.{eqb, leb}
+use lib.Dec.{eqb}
 use lib.ListN.{length, getD}
 use lib.Seq.{ext-getD}
-use Rattle.card.specs.Range.{listOf, all, number}
+use Rattle.card.specs.Range.{all}
 use Rattle.card.specs.Refusal.{refusalOf}
-use Rattle.card.specs.Fascn.{valueAt, oddAt, valuesIn, bytesOf, digitsIn, marksIn, decimalAt, checkOf, valuesOf, unpackRefusal, unpackAnswer, unpackOf, packRefusal, packAnswer, packOf, keyOf, sameBytes}
+use Rattle.card.specs.Fascn.{valueAt, oddAt, valuesIn, bytesOf, digitsIn, marksIn, decimalAt, checkOf, valuesOf, unpackRefusal, unpackAnswer, unpackOf, packRefusal, packOf, keyOf, sameBytes}
 use Rattle.card.specs.Characters.{checkDigits}
 use Rattle.card.proofs.RangeLaws.{all-at, all-of, length-listOf}
 use Rattle.card.proofs.NumberLaws.{number-lt}

@@ -4,3 +4,4 @@ pub mod CharacterLaws
 pub mod XorLaws
 pub mod OrderLaws
 pub mod FascnLaws
+pub mod Twelve

@@ -2,7 +2,7 @@
 -- Assumes nothing.
 use mathlib.Core.Path.{_≡_, refl, sym, ap, ap₂, _∙_}
 use Prim.Native.Nat.{ℕ, zero, suc, _+_, _-_, _*_, _/_, _%_, _^_, _≤_, _<_}
-use native.Mathlib.Nat.{not-suc-le-zero, le-of-suc-le-suc, le-step, le-refl, add-zero, add-suc, mul-zero, mul-suc, mul-one, zero-mul, pow-zero, pow-suc, pow-succ', add-assoc, add-mul, mul-assoc, lt-of-lt-of-le, mul-le-mul-right, pow-le-pow-right, mul-add-div-right, div-eq-of-lt, mul-add-mod-self-right, mod-eq-of-lt, div-one, div-add-mod', div-div-eq-div-mul, mul-comm, suc-mul, sub-self, mod-lt, mod-one, one-le-pow}
+use native.Mathlib.Nat.{le-step, le-refl, add-zero, add-suc, mul-zero, mul-suc, mul-one, pow-zero, pow-suc, pow-succ', add-assoc, add-mul, mul-assoc, lt-of-lt-of-le, mul-le-mul-right, pow-le-pow-right, mul-add-div-right, div-eq-of-lt, mul-add-mod-self-right, mod-eq-of-lt, div-one, div-add-mod', div-div-eq-div-mul, suc-mul, sub-self, mod-lt, mod-one, one-le-pow}
 use native.Mathlib.Numerals.{add-one}
 use native.Mathlib.Omega.{arith}
 use lib.Dec.{lit<}

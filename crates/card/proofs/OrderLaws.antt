@@ -1,7 +1,7 @@
 -- The order of a FASC-N: digits and marks are found again among the values made of them, and the check value is that of marks and digits.
 -- Assumes nothing.
 use mathlib.Core.Path.{_≡_, refl, sym, ap, ap₂, _∙_}
-use mathlib.Core.Bool.{true, _&&_, and-eq-true-iff}
+use mathlib.Core.Bool.{true, and-eq-true-iff}
 use mathlib.Core.List.{List, [], _∷_, _++_, append-assoc}
 use Prim.Native.Nat.{ℕ, suc, _+_, _%_, _<_, _≤_}
 use native.Mathlib.Nat.{add-zero, zero-add, add-assoc, mod-eq-of-lt}
@@ -10,12 +10,12 @@ use native.Mathlib.Omega.{arith}
 use borrow.Author.Tests.{eqb-true, leb-true}
 use lib.Bits.{bitXor, xor-zero-r, xor-lt}
 use lib.Dec.{eqb, lit<, lit≤}
-use lib.ListN.{length, getD, take, drop, length-append, drop-of-length-le, List·getD-append}
+use lib.ListN.{length, getD, take, length-append, drop-of-length-le, List·getD-append}
 use lib.Seq.{getD-append-add, getD-take, length-take-le, take-take, split-at}
 use Rattle.card.specs.Range.{listOf, run, all, xorOf}
 use Rattle.card.specs.Fascn.{Part, mark, field, order, valuesFrom, digitsFrom, marksFrom, digitsIn, marksIn, decimalAt, checkOf, valuesOf}
 use Rattle.card.specs.Characters.{charOf, charsOf, inOrder, checkDigits}
-use Rattle.card.proofs.RangeLaws.{all-at, length-listOf, getD-listOf, listOf-is, listOf-ext, listOf-append}
+use Rattle.card.proofs.RangeLaws.{all-at, length-listOf, listOf-is, listOf-ext, listOf-append}
 use Rattle.card.proofs.XorLaws.{xor-assoc, xor-left-comm, xorOf-append, xorOf-lt}
 
 -- ---- runs

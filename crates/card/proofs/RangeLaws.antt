@@ -1,14 +1,14 @@
 -- Lists and tests over 0, 1, .., n - 1: what each turn of a loop adds, what the loop has at its end, and what holds at each place.
 -- Assumes nothing.
 use mathlib.Core.Path.{_≡_, refl, sym, ap, ap₂, _∙_}
-use mathlib.Core.Bool.{Bool, true, false, _&&_, and-eq-true-iff}
+use mathlib.Core.Bool.{Bool, true, _&&_, and-eq-true-iff}
 use mathlib.Core.List.{List, [], _∷_, _++_, append-nil, append-assoc}
 use mathlib.Core.Logic.{⊎-elim}
 use Prim.Native.Nat.{ℕ, zero, suc, _+_, _≤_, _<_}
-use native.Mathlib.Nat.{not-suc-le-zero, le-of-suc-le-suc, le-step, le-refl, eq-or-lt-of-le, add-zero, add-suc, add-assoc, zero-add}
+use native.Mathlib.Nat.{not-suc-le-zero, le-of-suc-le-suc, le-step, le-refl, eq-or-lt-of-le, add-zero, add-suc, zero-add}
 use native.Mathlib.Numerals.{add-one}
 use native.Mathlib.Omega.{arith}
-use lib.ListN.{length, getD, set, take, drop, length-append, length-take, length-drop, take-append-drop, List·getD-append}
+use lib.ListN.{length, getD, set, take, drop, length-append, length-drop, take-append-drop, List·getD-append}
 use lib.Seq.{drop-cons, drop-length, length-take-le, append-snoc, set-at, getD-at, ext-getD, take-at, drop-at, drop-drop}
 use Rattle.card.specs.Range.{listOf, all}
 use Rattle.card.specs.Characters.{written}

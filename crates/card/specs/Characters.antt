@@ -1,8 +1,9 @@
 -- How the code goes about it: a character as one number of five bits, the bit sent first highest. No contract of a public function cites this.
 -- Assumes nothing.
+use mathlib.Core.Path.{_≡_}
 use mathlib.Core.Bool.{Bool}
 use mathlib.Core.List.{List, [], _∷_, _++_}
-use Prim.Native.Nat.{ℕ, suc, _+_, _-_, _*_, _/_, _%_, _^_}
+use Prim.Native.Nat.{ℕ, suc, _+_, _-_, _*_, _/_, _%_, _^_, _≤_, _<_}
 use lib.Bits.{bitXor}
 use lib.Dec.{eqb}
 use lib.ListN.{getD, take, drop}
@@ -12,6 +13,19 @@ use Rattle.card.specs.Fascn.{charBit, valuesOf}
 -- The list l with n places from place at on written anew with f 0, f 1, .., f (n - 1).
 unfoldable pub written : List ℕ → ℕ → ℕ → (ℕ → ℕ) → List ℕ
 written l at n f = take at l ++ listOf n f ++ drop (at + n) l
+
+-- What number_in asks: the n numbers from place at on lie within len, and n digits to the base fit 64 bits.
+pub record Readable (len at n base : ℕ) : Type 0 where
+  pub inside : at + n ≤ len
+  pub positive : 0 < base
+  pub fits : base ^ n < 2 ^ 64
+
+-- What put_digits asks: the n places from place at on lie within len, n digits of so many bits fit 64 bits, and each fits a byte.
+pub record Writable (len at n bits base : ℕ) : Type 0 where
+  pub inside : at + n ≤ len
+  pub shifts : bits * n < 64
+  pub power : base ≡ 2 ^ bits
+  pub byte : base ≤ 256
 
 -- Bit p of the numbers s, each of m bits, the highest first.
 unfoldable pub bitOf : ℕ → List ℕ → ℕ → ℕ

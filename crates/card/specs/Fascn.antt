@@ -1,6 +1,6 @@
 -- FASC-N (document 01, section FASC-N, after documents 000 and 003, TIG SCEPACS): what 25 bytes mean, and what unpack, pack and key give.
 -- Assumes nothing.
-use mathlib.Core.Bool.{Bool, true, false, cond, not, _&&_}
+use mathlib.Core.Bool.{Bool, true, cond, not, _&&_}
 use mathlib.Core.List.{List, [], _∷_, _++_}
 use Prim.Native.Nat.{ℕ, suc, _+_, _-_, _*_, _/_, _%_, _^_}
 use lib.Dec.{eqb, ltb, leb}

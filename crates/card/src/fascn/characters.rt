@@ -6,7 +6,7 @@ ghost use mathlib.Core.List.{_++_};
 ghost use Prim.Native.Nat.{_+_, _-_, _*_, _%_, _/_, _^_, _≤_, _<_};
 ghost use lib.ListN.{length, getD, take, drop};
 ghost use Rattle.card.specs.Range.{listOf, all, number};
-ghost use Rattle.card.specs.Characters.{written, oddChar, valueChar, charOf, charsIn, bytesOfChars};
+ghost use Rattle.card.specs.Characters.{written, Readable, Writable, oddChar, valueChar, charOf, charsIn, bytesOfChars};
 
 pub(crate) fn wide(x: u8) -> u64
     ensures { λ r. ⌜ (r ≡ x) × (r < 256) ⌝ }
@@ -16,7 +16,7 @@ pub(crate) fn wide(x: u8) -> u64
 
 // The n numbers of s from place at on, as the digits of one number to the base.
 fn number_in(s: &[u8], at: usize, n: usize, base: u64) -> u64
-    requires { ⌜ (at + n ≤ length (now s)) × (0 < base) × (base ^ n < 2 ^ 64) ⌝ }
+    requires { ⌜ Readable (length (now s)) at n base ⌝ }
     ensures { λ r. ⌜ r ≡ number base n (λ j. getD (now (s .entry)) (at + j) 0 % base) ⌝ }
 {
     let mut w = 0u64;
@@ -28,7 +28,7 @@ fn number_in(s: &[u8], at: usize, n: usize, base: u64) -> u64
 
 // The n digits of w to the base 2 ^ bits, stored from place at on.
 fn put_digits(out: &mut [u8], at: usize, w: u64, n: usize, bits: usize, base: u64)
-    requires { ⌜ (at + n ≤ length (now out)) × (bits * n < 64) × (base ≡ 2 ^ bits) × (base ≤ 256) ⌝ }
+    requires { ⌜ Writable (length (now out)) at n bits base ⌝ }
     ensures { λ r. ⌜ now (out .exit) ≡ written (now (out .entry)) at n (λ j. w / 2 ^ (bits * (n - 1 - j)) % base) ⌝ }
 {
     for j in 0..n {

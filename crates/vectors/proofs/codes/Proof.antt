@@ -1,7 +1,5 @@
 -- `vectors::codes` is safe and ends. Assumes nothing.
-use mathlib.Core.Path.{_≡_}
 use Prim.Native.Nat.{_-_, _≤_}
-use lib.ListN.{length}
 use borrow.Author.Needs.{needs}
 use Rattle.vectors.proofs.codes.Statement.{statement}
 use Rattle.vectors.proofs.codes.Tie as tie

@@ -23,11 +23,13 @@ unfolding sameBytes
 returns c = rw (ne-eqb _ _ (c .if1 .taken))
 
 loop-again : tie.Need-loop-again Inv-loop μ-loop
-loop-again c = (
-  search needs,
-  c .before .before .before .loop .inv .1,
-  all-more (λ j. eqb (getD (c .before .before .before .before .before .args .a .now) j 0) (getD (c .before .before .before .before .before .args .b .now) j 0)) (c .before .before .before .loop .i) (c .before .before .before .loop .inv .2) refl,
-)
+loop-again c =
+    let at = c .before .before .before in
+    let a = at .before .before .args in (
+      search needs,
+      at .loop .inv .1,
+      all-more (λ j. eqb (getD (a .a .now) j 0) (getD (a .b .now) j 0)) (at .loop .i) (at .loop .inv .2) refl,
+    )
 
 returns-2 : tie.Need-returns-2 Inv-loop μ-loop
 unfolding sameBytes
@@ -39,4 +41,5 @@ pub equal-spec : {M : Type 1} → statement M
 unfolding all
 equal-spec =
     tie.close
-    (tie.spec Inv-loop μ-loop returns (λ c. search needs) (λ c. search needs) (λ c. search needs) (λ c. search needs) (λ c. search needs) loop-again returns-2)
+    (tie.spec
+    Inv-loop μ-loop returns (λ c. search needs) (λ c. search needs) (λ c. search needs) (λ c. search needs) (λ c. search needs) loop-again returns-2)

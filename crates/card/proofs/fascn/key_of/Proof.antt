@@ -13,6 +13,7 @@ use native.Mathlib.Nat.{pow-succ', pow-le-pow-right}
 use Rattle.card.proofs.fascn.key_of.Statement.{statement}
 use Rattle.card.proofs.fascn.key_of.Tie as tie
 
+-- bytes above 9 are no digits, but fit: n is at most 29 * 10 ^ k - 29
 abbrev Inv-loop : tie.InvT-loop
 Inv-loop d n₀ k₀ n k = (k ≤ 16) × (n ≡ number 10 k (λ j. getD d j 0)) × (n + 29 ≤ 29 * 10 ^ k)
 
@@ -32,11 +33,12 @@ add-n : tie.Need-add-n Inv-loop μ-loop
 add-n c = omega (arith, small (c .before .before .loop .k) (omega arith))
 
 loop-again : tie.Need-loop-again Inv-loop μ-loop
-loop-again c = (
-  search needs,
-  ap (λ (x : ℕ). c .before .before .loop .n * 10 + x) (c .wide .ensures .0) ∙ number-more 10 (λ j. getD (c .before .before .before .args .t1) j 0) (c .before .before .loop .k) (c .before .before .loop .inv .1),
-  omega (arith, ten (c .before .before .loop .k)),
-)
+loop-again c =
+    let at = c .before .before in (
+      search needs,
+      ap (λ (x : ℕ). at .loop .n * 10 + x) (c .wide .ensures .0) ∙ number-more 10 (λ j. getD (at .before .args .t1) j 0) (at .loop .k) (at .loop .inv .1),
+      omega (arith, ten (at .loop .k)),
+    )
 
 returns : tie.Need-returns Inv-loop μ-loop
 unfolding keyOf
@@ -46,4 +48,6 @@ pub key-of-spec : {M : Type 1} → statement M
 unfolding number
 key-of-spec =
     tie.close
-    (tie.spec Inv-loop μ-loop (λ c. search needs) mul-n (λ c. search needs) (λ c κs. search needs) add-n (λ c. search needs) (λ c. search needs) loop-again returns)
+    (tie.spec
+    Inv-loop μ-loop (λ c. search needs) mul-n (λ c. search needs) (λ c κs. search needs) add-n (λ c. search needs) (λ c. search needs) loop-again
+    returns)

@@ -15,12 +15,31 @@ returns c = rw (ne-eqb _ _ (c .if1 .taken))
 
 returns-2 : tie.Need-returns-2
 returns-2 c =
-    let s = c .before .before .before .before .before .before .before .before .before .before .before .before .before .before .before .before .args .s .now in
-    let odd : c .before .before .before .before .before .before .before .all-odd .result ≡ all 40 (oddAt s) = c .before .before .before .before .before .before .before .all-odd .ensures ∙ rw (c .before .before .before .before .before .before .before .before .before .before .before .before .before .characters-in .ensures) (odd-chars s) in
-    let values : c .before .before .before .before .before .before .before .before .before .before .before .values-in .result ≡ valuesIn s = c .before .before .before .before .before .before .before .before .before .before .before .values-in .ensures ∙ rw (c .before .before .before .before .before .before .before .before .before .before .before .before .before .characters-in .ensures) (values-chars s) in
-    rw (c .judged .ensures, odd, c .before .before .before .before .before .marks-in .ensures, c .before .before .before .all-decimal .ensures, c .before .check-value .ensures, c .before .before .before .before .before .before .before .before .before .digits-in .ensures, values) (unpack-is s (c .before .before .before .before .before .before .before .before .before .before .before .before .before .before .if1 .left))
+    let after-check = c .before in
+    let after-decimal = after-check .before .before in
+    let after-marks = after-decimal .before .before in
+    let after-odd = after-marks .before .before in
+    let after-digits = after-odd .before .before in
+    let after-values = after-digits .before .before in
+    let after-chars = after-values .before .before in
+    let long = after-chars .before in
+    let s = long .before .before .args .s .now in
+    let odd : after-odd .all-odd .result ≡ all 40 (oddAt s) = after-odd .all-odd .ensures ∙ rw (after-chars .characters-in .ensures) (odd-chars s) in
+    let values : after-values .values-in .result ≡ valuesIn s = after-values .values-in .ensures ∙ rw (after-chars .characters-in .ensures) (values-chars s) in
+    rw (
+      c .judged .ensures,
+      odd,
+      after-marks .marks-in .ensures,
+      after-decimal .all-decimal .ensures,
+      after-check .check-value .ensures,
+      after-digits .digits-in .ensures,
+      values,
+    )
+    (unpack-is s (long .if1 .left))
 
 pub unpack-spec : {M : Type 1} → statement M
 unpack-spec =
     tie.close
-    (tie.spec returns (λ c κs. search needs) (λ c κs. search needs) (λ c κs. search needs) (λ c κs. search needs) (λ c κs. search needs) (λ c κs. search needs) (λ c. search needs) (λ c κs. search needs) (λ c κs. search needs) returns-2)
+    (tie.spec
+    returns (λ c κs. search needs) (λ c κs. search needs) (λ c κs. search needs) (λ c κs. search needs) (λ c κs. search needs) (λ c κs. search needs)
+    (λ c. search needs) (λ c κs. search needs) (λ c κs. search needs) returns-2)

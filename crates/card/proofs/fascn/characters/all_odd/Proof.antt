@@ -13,14 +13,20 @@ use Rattle.card.proofs.fascn.characters.all_odd.Tie as tie
 abbrev Inv-loop : tie.InvT-loop
 Inv-loop c ok₀ i₀ ok i = (i ≤ 40) × (ok ≡ all i (λ j. oddChar (getD c j 0)))
 
-loop-again : tie.Need-loop-again Inv-loop (λ c ok₀ i₀ ok i. 40 - i)
-loop-again c = (search needs, all-more (λ j. oddChar (getD (c .before .before .before .before .args .c .now) j 0)) (c .before .before .before .loop .i) (c .before .before .before .loop .inv .1) (c .odd .ensures))
+abbrev μ-loop : tie.MeasureT-loop
+μ-loop c ok₀ i₀ ok i = 40 - i
 
-returns : tie.Need-returns Inv-loop (λ c ok₀ i₀ ok i. 40 - i)
+loop-again : tie.Need-loop-again Inv-loop μ-loop
+loop-again c =
+    let at = c .before .before .before in
+    (search needs, all-more (λ j. oddChar (getD (at .before .args .c .now) j 0)) (at .loop .i) (at .loop .inv .1) (c .odd .ensures))
+
+returns : tie.Need-returns Inv-loop μ-loop
 returns c = let e : c .before .loop .i ≡ 40 = omega arith in rw e at (c .before .loop .inv .1)
 
 pub all-odd-spec : {M : Type 1} → statement M
 unfolding all
 all-odd-spec =
     tie.close
-    (tie.spec Inv-loop (λ c ok₀ i₀ ok i. 40 - i) (λ c. search needs) (λ c. search needs) (λ c κs. search needs) (λ c. search needs) (λ c. search needs) loop-again returns)
+    (tie.spec
+    Inv-loop μ-loop (λ c. search needs) (λ c. search needs) (λ c κs. search needs) (λ c. search needs) (λ c. search needs) loop-again returns)

@@ -23,4 +23,8 @@ returns c =
     rw div-one (five (x % 2) (x / 2 % 2) (x / 4 % 2) (x / 8 % 2) ((1 + x % 2 + x / 2 % 2 + x / 4 % 2 + x / 8 % 2) % 2))
 
 pub code-spec : {M : Type 1} → statement M
-code-spec = tie.close (tie.spec (λ c. search needs) (λ c. search needs) (λ c. search needs) (λ c. search needs) (λ c. search needs) (λ c. search needs) (λ c. search needs) (λ c. search needs) (λ c. search needs) (λ c. search needs) (λ c. search needs) (λ c. search needs) returns)
+code-spec =
+    tie.close
+    (tie.spec
+    (λ c. search needs) (λ c. search needs) (λ c. search needs) (λ c. search needs) (λ c. search needs) (λ c. search needs) (λ c. search needs)
+    (λ c. search needs) (λ c. search needs) (λ c. search needs) (λ c. search needs) (λ c. search needs) returns)

@@ -17,24 +17,27 @@ abbrev μ-loop : tie.MeasureT-loop
 μ-loop s at n base w₀ j₀ w j = n - j
 
 -- the number with digit j is below base ^ n
-room : (c : tie.In-loop Inv-loop μ-loop)
-    → c .before .loop .w * c .before .before .before .args .base + getD (c .before .before .before .args .s .now) (c .before .before .before .args .at + c .before .loop .j) 0 % c .before .before .before .args .base < c .before .before .before .args .base ^ c .before .before .before .args .n
-room c =
-    number-room (c .before .before .before .args .base) (c .before .before .before .args .n) (λ i. getD (c .before .before .before .args .s .now) (c .before .before .before .args .at + i) 0 % c .before .before .before .args .base) (c .before .before .before .pre .1) (λ i. mod-lt _ (c .before .before .before .pre .1)) (c .before .loop .j)
-    (omega arith) (c .before .loop .inv .1)
+room : (c : tie.At-loop Inv-loop μ-loop) → c .loop .j < c .before .before .args .n
+    → let a = c .before .before .args in c .loop .w * a .base + getD (a .s .now) (a .at + c .loop .j) 0 % a .base < a .base ^ a .n
+room c h =
+    let a = c .before .before .args in
+    let pos = c .before .before .pre .positive in
+    number-room (a .base) (a .n) (λ i. getD (a .s .now) (a .at + i) 0 % a .base) pos (λ i. mod-lt _ pos) (c .loop .j) h (c .loop .inv .1)
 
 mul-w : tie.Need-mul-w Inv-loop μ-loop
-mul-w c = omega (arith, room c)
+mul-w c = omega (arith, room (c .before) (omega arith))
 
 add-w : tie.Need-add-w Inv-loop μ-loop
-add-w c = rw (c .wide .ensures .0) (omega (arith, room (c .before .before)))
+add-w c = rw (c .wide .ensures .0) (omega (arith, room (c .before .before .before) (omega arith)))
 
 loop-again : tie.Need-loop-again Inv-loop μ-loop
-loop-again c = (
-  search needs,
-  ap (λ (x : ℕ). c .before .before .before .loop .w * c .before .before .before .before .before .args .base + x % c .before .before .before .before .before .args .base) (c .wide .ensures .0)
-      ∙ number-more (c .before .before .before .before .before .args .base) (λ i. getD (c .before .before .before .before .before .args .s .now) (c .before .before .before .before .before .args .at + i) 0 % c .before .before .before .before .before .args .base) (c .before .before .before .loop .j) (c .before .before .before .loop .inv .1),
-)
+loop-again c =
+    let at = c .before .before .before in
+    let a = at .before .before .args in (
+      search needs,
+      ap (λ (x : ℕ). at .loop .w * a .base + x % a .base) (c .wide .ensures .0)
+          ∙ number-more (a .base) (λ i. getD (a .s .now) (a .at + i) 0 % a .base) (at .loop .j) (at .loop .inv .1),
+    )
 
 returns : tie.Need-returns Inv-loop μ-loop
 returns c = let e : c .before .loop .j ≡ c .before .before .before .args .n = omega arith in rw e at (c .before .loop .inv .1)
@@ -43,5 +46,6 @@ pub number-in-spec : {M : Type 1} → statement M
 unfolding number
 number-in-spec =
     tie.close
-    (tie.spec Inv-loop μ-loop (λ c. search needs) mul-w (λ c. search needs) (λ c. search needs) (λ c κs. search needs) (λ c. search needs)
-    add-w (λ c. search needs) (λ c. search needs) loop-again returns)
+    (tie.spec
+    Inv-loop μ-loop (λ c. search needs) mul-w (λ c. search needs) (λ c. search needs) (λ c κs. search needs) (λ c. search needs) add-w
+    (λ c. search needs) (λ c. search needs) loop-again returns)

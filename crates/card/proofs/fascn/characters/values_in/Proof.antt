@@ -13,16 +13,25 @@ use Rattle.card.proofs.fascn.characters.values_in.Tie as tie
 abbrev Inv-loop : tie.InvT-loop
 Inv-loop c v₀ i₀ v i = (i ≤ 40) × (v ≡ written v₀ 0 i (λ j. valueChar (getD c j 0)))
 
-loop-holds : tie.Need-loop-holds Inv-loop (λ c v₀ i₀ v i. 40 - i)
+abbrev μ-loop : tie.MeasureT-loop
+μ-loop c v₀ i₀ v i = 40 - i
+
+loop-holds : tie.Need-loop-holds Inv-loop μ-loop
 loop-holds c = (search needs, sym (written-none _ _ _))
 
-loop-again : tie.Need-loop-again Inv-loop (λ c v₀ i₀ v i. 40 - i)
-loop-again c = (search needs, rw zero-add at (written-more (replicate 40 0) 0 (c .before .before .before .loop .i) _ (omega arith) (c .before .before .before .loop .inv .1) (c .value .ensures)))
+loop-again : tie.Need-loop-again Inv-loop μ-loop
+loop-again c =
+    let at = c .before .before .before in
+    (search needs, rw zero-add at (written-more (replicate 40 0) 0 (at .loop .i) _ (omega arith) (at .loop .inv .1) (c .value .ensures)))
 
-returns : tie.Need-returns Inv-loop (λ c v₀ i₀ v i. 40 - i)
-returns c = let e : c .before .loop .i ≡ 40 = omega arith in (rw e at (c .before .loop .inv .1)) ∙ written-all (replicate 40 0) 40 _ refl
+returns : tie.Need-returns Inv-loop μ-loop
+returns c =
+    let e : c .before .loop .i ≡ 40 = omega arith in
+    (rw e at (c .before .loop .inv .1)) ∙ written-all (replicate 40 0) 40 _ refl
 
 pub values-in-spec : {M : Type 1} → statement M
 values-in-spec =
     tie.close
-    (tie.spec Inv-loop (λ c v₀ i₀ v i. 40 - i) loop-holds (λ c. search needs) (λ c κs. search needs) (λ c. search needs) (λ c. search needs) (λ c. search needs) loop-again returns)
+    (tie.spec
+    Inv-loop μ-loop loop-holds (λ c. search needs) (λ c κs. search needs) (λ c. search needs) (λ c. search needs) (λ c. search needs) loop-again
+    returns)

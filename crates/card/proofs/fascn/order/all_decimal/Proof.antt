@@ -12,14 +12,21 @@ use Rattle.card.proofs.fascn.order.all_decimal.Tie as tie
 abbrev Inv-loop : tie.InvT-loop
 Inv-loop d ok₀ k₀ ok k = (k ≤ 32) × (ok ≡ all k (decimalAt d))
 
-loop-again : tie.Need-loop-again Inv-loop (λ d ok₀ k₀ ok k. 32 - k)
-unfolding decimalAt
-loop-again c = (search needs, all-more (decimalAt (c .before .before .before .args .d .now)) (c .before .before .loop .k) (c .before .before .loop .inv .1) refl)
+abbrev μ-loop : tie.MeasureT-loop
+μ-loop d ok₀ k₀ ok k = 32 - k
 
-returns : tie.Need-returns Inv-loop (λ d ok₀ k₀ ok k. 32 - k)
+loop-again : tie.Need-loop-again Inv-loop μ-loop
+unfolding decimalAt
+loop-again c =
+    let at = c .before .before in
+    (search needs, all-more (decimalAt (at .before .args .d .now)) (at .loop .k) (at .loop .inv .1) refl)
+
+returns : tie.Need-returns Inv-loop μ-loop
 returns c = let e : c .before .loop .k ≡ 32 = omega arith in rw e at (c .before .loop .inv .1)
 
 pub all-decimal-spec : {M : Type 1} → statement M
 unfolding all
 all-decimal-spec =
-    tie.close (tie.spec Inv-loop (λ d ok₀ k₀ ok k. 32 - k) (λ c. search needs) (λ c. search needs) (λ c. search needs) (λ c. search needs) loop-again returns)
+    tie.close
+    (tie.spec
+    Inv-loop μ-loop (λ c. search needs) (λ c. search needs) (λ c. search needs) (λ c. search needs) loop-again returns)

@@ -14,17 +14,24 @@ use Rattle.card.proofs.fascn.order.check_value.Tie as tie
 abbrev Inv-loop : tie.InvT-loop
 Inv-loop d x₀ k₀ x k = (k ≤ 32) × (x ≡ bitXor 9 (xorOf (listOf k (λ j. getD d j 0))))
 
-loop-holds : tie.Need-loop-holds Inv-loop (λ d x₀ k₀ x k. 32 - k)
+abbrev μ-loop : tie.MeasureT-loop
+μ-loop d x₀ k₀ x k = 32 - k
+
+loop-holds : tie.Need-loop-holds Inv-loop μ-loop
 unfolding listOf xorOf
 loop-holds c = (search needs, refl)
 
-loop-again : tie.Need-loop-again Inv-loop (λ d x₀ k₀ x k. 32 - k)
-loop-again c = (search needs, xorOf-more 9 (λ j. getD (c .before .before .before .args .d .now) j 0) (c .before .before .loop .k) (c .before .before .loop .inv .1))
+loop-again : tie.Need-loop-again Inv-loop μ-loop
+loop-again c =
+    let at = c .before .before in
+    (search needs, xorOf-more 9 (λ j. getD (at .before .args .d .now) j 0) (at .loop .k) (at .loop .inv .1))
 
-returns : tie.Need-returns Inv-loop (λ d x₀ k₀ x k. 32 - k)
+returns : tie.Need-returns Inv-loop μ-loop
 unfolding checkDigits
 returns c = let e : c .before .loop .k ≡ 32 = omega arith in rw e at (c .before .loop .inv .1)
 
 pub check-value-spec : {M : Type 1} → statement M
 check-value-spec =
-    tie.close (tie.spec Inv-loop (λ d x₀ k₀ x k. 32 - k) loop-holds (λ c. search needs) (λ c. search needs) (λ c. search needs) loop-again returns)
+    tie.close
+    (tie.spec
+    Inv-loop μ-loop loop-holds (λ c. search needs) (λ c. search needs) (λ c. search needs) loop-again returns)

@@ -6,10 +6,26 @@ use Rattle.card.proofs.fascn.order.codes_of.Tie as tie
 
 returns : tie.Need-returns
 returns c =
-    rw (c .in-order .ensures, c .before .before .before .before .before .before .before .digit-codes .ensures, c .before .before .before .before .before .code .ensures, c .before .before .before .code2 .ensures, c .before .before .code3 .ensures, c .before .code4 .ensures, c .before .before .before .before .before .before .check-value .ensures)
-    (chars-in-order (c .before .before .before .before .before .before .before .before .args .d .now))
+    let es = c .before in
+    let fs = es .before in
+    let ss = fs .before in
+    let check = ss .before .before in
+    let value = check .before in
+    let digits = value .before in
+    rw (
+      c .in-order .ensures,
+      es .code4 .ensures,
+      fs .code3 .ensures,
+      ss .code2 .ensures,
+      check .code .ensures,
+      value .check-value .ensures,
+      digits .digit-codes .ensures,
+    )
+    (chars-in-order (digits .before .args .d .now))
 
 pub codes-of-spec : {M : Type 1} → statement M
 codes-of-spec =
     tie.close
-    (tie.spec (λ c κs. search needs) (λ c κs. search needs) (λ c κs. search needs) (λ c κs. search needs) (λ c κs. search needs) (λ c κs. search needs) (λ c κs. search needs) returns)
+    (tie.spec
+    (λ c κs. search needs) (λ c κs. search needs) (λ c κs. search needs) (λ c κs. search needs) (λ c κs. search needs) (λ c κs. search needs)
+    (λ c κs. search needs) returns)

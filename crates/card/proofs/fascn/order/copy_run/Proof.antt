@@ -25,7 +25,10 @@ slice-write-dst : tie.Need-slice-write-dst Inv-loop μ-loop
 slice-write-dst c = omega (arith, length-dst (c .before .before))
 
 loop-again : tie.Need-loop-again Inv-loop μ-loop
-loop-again c = (search needs, written-more (c .before .before .before .args .dst .now) (c .before .before .before .args .at) (c .before .before .loop .j) _ (omega arith) (c .before .before .loop .inv .1) refl)
+loop-again c =
+    let at = c .before .before in
+    let a = at .before .args in
+    (search needs, written-more (a .dst .now) (a .at) (at .loop .j) _ (omega arith) (at .loop .inv .1) refl)
 
 returns : tie.Need-returns Inv-loop μ-loop
 returns c = let e : c .before .loop .j ≡ c .before .before .args .n = omega arith in rw e at (c .before .loop .inv .1)
@@ -33,5 +36,6 @@ returns c = let e : c .before .loop .j ≡ c .before .before .args .n = omega ar
 pub copy-run-spec : {M : Type 1} → statement M
 copy-run-spec =
     tie.close
-    (tie.spec Inv-loop μ-loop loop-holds (λ c. search needs) (λ c. search needs) (λ c. search needs) slice-write-dst (λ c. search needs) (λ c. search needs)
+    (tie.spec
+    Inv-loop μ-loop loop-holds (λ c. search needs) (λ c. search needs) (λ c. search needs) slice-write-dst (λ c. search needs) (λ c. search needs)
     loop-again (λ c. length-dst (c .before)) returns)

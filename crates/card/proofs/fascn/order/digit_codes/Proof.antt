@@ -13,16 +13,25 @@ use Rattle.card.proofs.fascn.order.digit_codes.Tie as tie
 abbrev Inv-loop : tie.InvT-loop
 Inv-loop d c₀ k₀ c k = (k ≤ 32) × (c ≡ written c₀ 0 k (λ j. charOf (getD d j 0)))
 
-loop-holds : tie.Need-loop-holds Inv-loop (λ d c₀ k₀ c k. 32 - k)
+abbrev μ-loop : tie.MeasureT-loop
+μ-loop d c₀ k₀ c k = 32 - k
+
+loop-holds : tie.Need-loop-holds Inv-loop μ-loop
 loop-holds c = (search needs, sym (written-none _ _ _))
 
-loop-again : tie.Need-loop-again Inv-loop (λ d c₀ k₀ c k. 32 - k)
-loop-again c = (search needs, rw zero-add at (written-more (replicate 32 0) 0 (c .before .before .before .loop .k) _ (omega arith) (c .before .before .before .loop .inv .1) (c .code .ensures)))
+loop-again : tie.Need-loop-again Inv-loop μ-loop
+loop-again c =
+    let at = c .before .before .before in
+    (search needs, rw zero-add at (written-more (replicate 32 0) 0 (at .loop .k) _ (omega arith) (at .loop .inv .1) (c .code .ensures)))
 
-returns : tie.Need-returns Inv-loop (λ d c₀ k₀ c k. 32 - k)
-returns c = let e : c .before .loop .k ≡ 32 = omega arith in (rw e at (c .before .loop .inv .1)) ∙ written-all (replicate 32 0) 32 _ refl
+returns : tie.Need-returns Inv-loop μ-loop
+returns c =
+    let e : c .before .loop .k ≡ 32 = omega arith in
+    (rw e at (c .before .loop .inv .1)) ∙ written-all (replicate 32 0) 32 _ refl
 
 pub digit-codes-spec : {M : Type 1} → statement M
 digit-codes-spec =
     tie.close
-    (tie.spec Inv-loop (λ d c₀ k₀ c k. 32 - k) loop-holds (λ c. search needs) (λ c κs. search needs) (λ c. search needs) (λ c. search needs) (λ c. search needs) loop-again returns)
+    (tie.spec
+    Inv-loop μ-loop loop-holds (λ c. search needs) (λ c κs. search needs) (λ c. search needs) (λ c. search needs) (λ c. search needs) loop-again
+    returns)

@@ -8,9 +8,25 @@ use Rattle.card.proofs.fascn.order.digits_in.Tie as tie
 
 returns : tie.Need-returns
 unfolding written digitsFrom run listOf
-returns c = rw (c .before .copy-run6 .ensures, c .before .before .before .before .before .copy-run5 .ensures, c .before .before .before .before .before .before .before .before .before .copy-run4 .ensures, c .before .before .before .before .before .before .before .before .before .before .before .before .before .copy-run3 .ensures, c .before .before .before .before .before .before .before .before .before .before .before .before .before .before .before .before .before .copy-run2 .ensures, c .before .before .before .before .before .before .before .before .before .before .before .before .before .before .before .before .before .before .before .before .before .copy-run .ensures)
+returns c =
+    let run6 = c .before in
+    let run5 = run6 .before .before .before .before in
+    let run4 = run5 .before .before .before .before in
+    let run3 = run4 .before .before .before .before in
+    let run2 = run3 .before .before .before .before in
+    let run1 = run2 .before .before .before .before in
+    rw (
+      run6 .copy-run6 .ensures,
+      run5 .copy-run5 .ensures,
+      run4 .copy-run4 .ensures,
+      run3 .copy-run3 .ensures,
+      run2 .copy-run2 .ensures,
+      run1 .copy-run .ensures,
+    )
 
 pub digits-in-spec : {M : Type 1} → statement M
 digits-in-spec =
     tie.close
-    (tie.spec (λ c. search needs) (λ c κs. search needs) (λ c. search needs) (λ c κs. search needs) (λ c. search needs) (λ c κs. search needs) (λ c. search needs) (λ c κs. search needs) (λ c. search needs) (λ c κs. search needs) (λ c. search needs) (λ c κs. search needs) returns)
+    (tie.spec
+    (λ c. search needs) (λ c κs. search needs) (λ c. search needs) (λ c κs. search needs) (λ c. search needs) (λ c κs. search needs)
+    (λ c. search needs) (λ c κs. search needs) (λ c. search needs) (λ c κs. search needs) (λ c. search needs) (λ c κs. search needs) returns)

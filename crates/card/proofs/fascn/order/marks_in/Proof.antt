@@ -10,4 +10,8 @@ unfolding marksFrom
 returns c = simp (and-assoc, and-true)
 
 pub marks-in-spec : {M : Type 1} → statement M
-marks-in-spec = tie.close (tie.spec (λ c. search needs) (λ c. search needs) (λ c. search needs) (λ c. search needs) (λ c. search needs) (λ c. search needs) (λ c. search needs) returns)
+marks-in-spec =
+    tie.close
+    (tie.spec
+    (λ c. search needs) (λ c. search needs) (λ c. search needs) (λ c. search needs) (λ c. search needs) (λ c. search needs) (λ c. search needs)
+    returns)
