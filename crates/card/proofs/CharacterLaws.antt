@@ -4,16 +4,16 @@ use mathlib.Core.Path.{_≡_, sym, ap, _∙_}
 use mathlib.Core.Bool.{Bool, true, false, cond}
 use mathlib.Core.List.{List}
 use Prim.Native.Nat.{ℕ, zero, suc, _+_, _-_, _*_, _/_, _%_, _^_, _<_}
-use native.Mathlib.Nat.{mul-add, mul-assoc, add-assoc, mul-add-div, div-eq-of-lt, div-one, div-add-mod, add-zero, mul-add-mod-self-left, mod-eq-of-lt, mod-lt}
+use native.Mathlib.Nat.{mul-add, mul-one, mul-assoc, add-assoc, mul-add-div, div-eq-of-lt, div-one, div-add-mod, add-zero, mul-add-mod-self-left, mod-eq-of-lt, mod-lt}
 use native.Mathlib.Omega.{arith}
 use borrow.Author.Tests.{eqb-true, eq-eqb}
 use lib.Dec.{ltb, lit<}
 use lib.ListN.{length, getD}
-use Rattle.card.specs.Range.{listOf, all, number}
+use Rattle.card.specs.Range.{listOf, all, number, written}
 use Rattle.card.specs.Fascn.{bitAt, valueAt, oddAt, valuesIn, charBit, sentBit, bytesOf, valuesOf}
 use Rattle.card.specs.Characters.{bitOf, recut, oddChar, valueChar, charOf, charsIn, charsOf, bytesOfChars}
 use Rattle.card.proofs.NumberLaws.{number-ext, number-lt, number-group, number-digit, number-mod, pow-mul}
-use Rattle.card.proofs.RangeLaws.{all-at, all-ext, all-of, getD-listOf, listOf-ext, listOf-is}
+use Rattle.card.proofs.RangeLaws.{all-at, all-ext, all-of, getD-listOf, listOf-ext, listOf-is, written-ext, written-on}
 
 bit-lt : (m : ℕ) (s : List ℕ) (p : ℕ) → bitOf m s p < 2
 unfolding bitOf
@@ -48,6 +48,12 @@ module _ (m n a b : ℕ) (same : m * a ≡ n * b) (s : List ℕ) (g : ℕ) where
     where
       place : (t : ℕ) → m * (a * g) + (n * j + t) ≡ n * (b * g + j) + t
       place t = rw (mul-add, ← mul-assoc m a g, same, mul-assoc n b g, add-assoc)
+
+  -- a turn of a loop over the groups: the numbers of group g, joined as w, are written after those of the groups before
+  pub recut-turn : (l : List ℕ) {c c′ : List ℕ} {w : ℕ} → w ≡ number (2 ^ m) a (λ k. getD s (a * g + k) 0 % 2 ^ m) → c ≡ written l 0 (b * g) (recut m n s)
+      → c′ ≡ written c (b * g) b (λ j. w / 2 ^ (n * (b - 1 - j)) % 2 ^ n) → c′ ≡ written l 0 (b * (g + 1)) (recut m n s)
+  recut-turn l p q r =
+      r ∙ rw (p, q, mul-add, mul-one) (written-ext (written l 0 (b * g) (recut m n s)) (b * g) b recut-digit ∙ written-on l (b * g) b (recut m n s))
 
 -- ---- characters and their bits
 

@@ -26,28 +26,23 @@ length-bytes : (v : List ℕ) → length (bytesOf v) ≡ 25
 unfolding bytesOf
 length-bytes v = length-listOf 25 _
 
--- the check value may be taken of the digits: where a mark is out of place, that refuses first
-pub unpack-is : (s : List ℕ) → length s ≡ 25
-    → unpackAnswer
+-- what unpack answers for 25 bytes, the check value taken of the digits
+abbrev pub by-digits : List ℕ → ℕ × List ℕ
+by-digits s =
+    unpackAnswer
     (refusalOf
     ((16, not (all 40 (oddAt s)))
     ∷ (17, not (marksIn (valuesIn s) && all 32 (decimalAt (digitsIn (valuesIn s)))))
     ∷ (18, not (eqb (getD (valuesIn s) 39 0) (checkDigits (digitsIn (valuesIn s)))))
     ∷ []))
     (digitsIn (valuesIn s))
-    ≡ unpackOf s
+
+-- it may be: where a mark is out of place, 17 is the answer whatever the check value is
+pub unpack-is : (s : List ℕ) → length s ≡ 25 → by-digits s ≡ unpackOf s
 unfolding unpackOf unpackRefusal
 unpack-is s e = go (marksIn (valuesIn s)) refl
   where
-    go : (m : Bool) → marksIn (valuesIn s) ≡ m
-        → unpackAnswer
-        (refusalOf
-        ((16, not (all 40 (oddAt s)))
-        ∷ (17, not (marksIn (valuesIn s) && all 32 (decimalAt (digitsIn (valuesIn s)))))
-        ∷ (18, not (eqb (getD (valuesIn s) 39 0) (checkDigits (digitsIn (valuesIn s)))))
-        ∷ []))
-        (digitsIn (valuesIn s))
-        ≡ unpackOf s
+    go : (m : Bool) → marksIn (valuesIn s) ≡ m → by-digits s ≡ unpackOf s
     go true p = rw (eq-eqb _ _ e, check-digits (valuesIn s) (length-values s) p)
     go false p = rw (eq-eqb _ _ e, p)
 

@@ -22,7 +22,9 @@ use Rattle.card.proofs.XorLaws.{xor-assoc, xor-left-comm, xorOf-append,
 
 run-append : (i n m : ℕ) (l : List ℕ) → run i (n + m) l ≡ run i n l ++ run (i + n) m l
 unfolding run
-run-append i n m l = listOf-append n m (λ j. getD l (i + j) 0) ∙ ap (λ (t : List ℕ). listOf n (λ j. getD l (i + j) 0) ++ t) (listOf-ext m (λ j h. ap (λ (p : ℕ). getD l p 0) (sym (add-assoc i n j))))
+run-append i n m l =
+    listOf-append n m (λ j. getD l (i + j) 0)
+    ∙ ap (λ (t : List ℕ). listOf n (λ j. getD l (i + j) 0) ++ t) (listOf-ext m (λ j h. ap (λ (p : ℕ). getD l p 0) (sym (add-assoc i n j))))
 
 run-none : (i : ℕ) (l : List ℕ) → run i 0 l ≡ []
 unfolding run listOf
@@ -115,7 +117,9 @@ values-are : (d : List ℕ) → valuesOf d ≡ valuesFrom 0 order d ++ (checkOf 
 unfolding valuesOf
 values-are d = refl
 
-each : (d : List ℕ) → listOf 40 (λ i. getD (valuesOf d) i 0 % 16) ≡ valuesFrom 0 order (listOf 32 (λ k. getD d k 0 % 16)) ++ (checkOf (valuesFrom 0 order d) % 16 ∷ [])
+-- the low four bits of each value: of the marks, of the digits and of the check value
+each : (d : List ℕ) → listOf 40 (λ i. getD (valuesOf d) i 0 % 16)
+    ≡ valuesFrom 0 order (listOf 32 (λ k. getD d k 0 % 16)) ++ (checkOf (valuesFrom 0 order d) % 16 ∷ [])
 unfolding valuesOf valuesFrom run listOf
 each d = refl
 

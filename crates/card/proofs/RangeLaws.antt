@@ -10,8 +10,7 @@ use native.Mathlib.Numerals.{add-one}
 use native.Mathlib.Omega.{arith}
 use lib.ListN.{length, getD, set, take, drop, length-append, length-drop, take-append-drop, List·getD-append}
 use lib.Seq.{drop-cons, drop-length, length-take-le, append-snoc, set-at, getD-at, ext-getD, take-at, drop-at, drop-drop}
-use Rattle.card.specs.Range.{listOf, all}
-use Rattle.card.specs.Characters.{written}
+use Rattle.card.specs.Range.{listOf, all, written}
 
 -- ---- tests
 
@@ -109,7 +108,10 @@ written-on l n m f =
       listOf-append n m f,
     )
 
--- all places are written
-pub written-all : (l : List ℕ) (n : ℕ) (f : ℕ → ℕ) → n ≡ length l → written l 0 n f ≡ listOf n f
+-- a loop that writes a list from its first place on: a turn, and the end
+pub front-more : (l : List ℕ) (n : ℕ) (f : ℕ → ℕ) {m : List ℕ} {x : ℕ} → n < length l → m ≡ written l 0 n f → x ≡ f n → set m n x ≡ written l 0 (n + 1) f
+front-more l n f h p q = rw zero-add at (written-more l 0 n f (rw zero-add h) p q)
+
+pub front-end : (l : List ℕ) (n : ℕ) (f : ℕ → ℕ) {m : List ℕ} → n ≡ length l → m ≡ written l 0 n f → m ≡ listOf (length l) f
 unfolding written
-written-all l n f e = rw (zero-add, e, drop-length, append-nil)
+front-end l n f e p = p ∙ rw (zero-add, e, drop-length, append-nil)

@@ -6,13 +6,9 @@ use mathlib.Core.List.{List, [], _∷_, _++_}
 use Prim.Native.Nat.{ℕ, suc, _+_, _-_, _*_, _/_, _%_, _^_, _≤_, _<_}
 use lib.Bits.{bitXor}
 use lib.Dec.{eqb}
-use lib.ListN.{getD, take, drop}
+use lib.ListN.{getD}
 use Rattle.card.specs.Range.{listOf, run, number, xorOf}
 use Rattle.card.specs.Fascn.{charBit, valuesOf}
-
--- The list l with n places from place at on written anew with f 0, f 1, .., f (n - 1).
-unfoldable pub written : List ℕ → ℕ → ℕ → (ℕ → ℕ) → List ℕ
-written l at n f = take at l ++ listOf n f ++ drop (at + n) l
 
 -- What number_in asks: the n numbers from place at on lie within len, and n digits to the base fit 64 bits.
 pub record Readable (len at n base : ℕ) : Type 0 where
@@ -62,6 +58,6 @@ inOrder e ss fs es check =
     (ss ∷ run 0 4 e) ++ (fs ∷ run 4 4 e) ++ (fs ∷ run 8 6 e) ++ (fs ∷ run 14 1 e) ++ (fs ∷ run 15 1 e) ++ (fs ∷ run 16 16 e)
     ++ (es ∷ check ∷ [])
 
--- The exclusive or of the seven marks and the digits d.
+-- The exclusive or of the seven marks, which is 9, and the digits d.
 unfoldable pub checkDigits : List ℕ → ℕ
 checkDigits d = bitXor 9 (xorOf (listOf 32 (λ k. getD d k 0)))

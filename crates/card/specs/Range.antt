@@ -4,7 +4,7 @@ use mathlib.Core.Bool.{Bool, true, _&&_}
 use mathlib.Core.List.{List, [], _∷_, _++_}
 use Prim.Native.Nat.{ℕ, zero, suc, _+_, _*_}
 use lib.Bits.{bitXor}
-use lib.ListN.{getD}
+use lib.ListN.{getD, take, drop}
 
 -- f 0, f 1, .., f (n - 1)
 unfoldable pub listOf : ℕ → (ℕ → ℕ) → List ℕ
@@ -14,6 +14,10 @@ listOf (suc n) f = listOf n f ++ (f n ∷ [])
 -- the n numbers of l from place i on
 unfoldable pub run : ℕ → ℕ → List ℕ → List ℕ
 run i n l = listOf n (λ j. getD l (i + j) 0)
+
+-- the list l with the n places from place at on written anew, f 0 first
+unfoldable pub written : List ℕ → ℕ → ℕ → (ℕ → ℕ) → List ℕ
+written l at n f = take at l ++ listOf n f ++ drop (at + n) l
 
 -- the test f passes at each number below n
 unfoldable pub all : ℕ → (ℕ → Bool) → Bool

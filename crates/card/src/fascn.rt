@@ -122,7 +122,7 @@ pub fn pack(d: [u8; 32]) -> Packed
             bytes: [0; 25],
         };
     }
-    let c = order::codes_of(&d);
+    let c = order::characters_of(&d);
     Packed {
         answer: PackAnswer::Accepted,
         bytes: characters::bytes_of(&c),

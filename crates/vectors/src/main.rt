@@ -3,7 +3,7 @@
 use card::fascn;
 ghost use mathlib.Core.Path.{_≡_};
 ghost use mathlib.Core.Bool.{cond};
-ghost use Prim.Native.Nat.{_+_, _≤_, _<_, _%_};
+ghost use Prim.Native.Nat.{_+_, _<_, _%_};
 ghost use lib.Dec.{ltb};
 ghost use Rattle.card.specs.Fascn.{bitAt};
 

@@ -1,12 +1,10 @@
 // 25 bytes as 40 characters of 5 bits, and back. Five bytes are eight characters: each way goes by numbers of 40 bits.
 // A character is kept as one number, the bit sent first highest.
 ghost use mathlib.Core.Path.{_≡_};
-ghost use mathlib.Core.Bool.{Bool};
-ghost use mathlib.Core.List.{_++_};
-ghost use Prim.Native.Nat.{_+_, _-_, _*_, _%_, _/_, _^_, _≤_, _<_};
-ghost use lib.ListN.{length, getD, take, drop};
-ghost use Rattle.card.specs.Range.{listOf, all, number};
-ghost use Rattle.card.specs.Characters.{written, Readable, Writable, oddChar, valueChar, charOf, charsIn, bytesOfChars};
+ghost use Prim.Native.Nat.{_+_, _-_, _*_, _%_, _/_, _^_, _<_};
+ghost use lib.ListN.{length, getD};
+ghost use Rattle.card.specs.Range.{listOf, all, number, written};
+ghost use Rattle.card.specs.Characters.{Readable, Writable, oddChar, valueChar, charOf, charsIn, bytesOfChars};
 
 pub(crate) fn wide(x: u8) -> u64
     ensures { λ r. ⌜ (r ≡ x) × (r < 256) ⌝ }
@@ -76,7 +74,7 @@ fn value(c: u8) -> u8
 }
 
 // The character of a value: its four bits, lowest first, and a bit that makes the count of ones odd.
-pub(crate) fn code(x: u8) -> u8
+pub(crate) fn character_of(x: u8) -> u8
     ensures { λ r. ⌜ r ≡ charOf x ⌝ }
 {
     16 * (x % 2)

@@ -3,9 +3,9 @@ use crate::fascn::characters;
 ghost use mathlib.Core.Path.{_≡_};
 ghost use Prim.Native.Nat.{_+_, _≤_};
 ghost use lib.ListN.{length, getD};
-ghost use Rattle.card.specs.Range.{listOf, all};
+ghost use Rattle.card.specs.Range.{listOf, all, written};
 ghost use Rattle.card.specs.Fascn.{digitsIn, marksIn, decimalAt};
-ghost use Rattle.card.specs.Characters.{written, charOf, inOrder, checkDigits, charsOf};
+ghost use Rattle.card.specs.Characters.{charOf, inOrder, checkDigits, charsOf};
 
 const SS: u8 = 11;
 
@@ -74,12 +74,12 @@ pub(crate) fn check_value(d: &[u8; 32]) -> u8
 }
 
 // The characters of the digits.
-fn digit_codes(d: &[u8; 32]) -> [u8; 32]
+fn digit_characters(d: &[u8; 32]) -> [u8; 32]
     ensures { λ r. ⌜ r ≡ listOf 32 (λ k. charOf (getD (now (d .entry)) k 0)) ⌝ }
 {
     let mut c = [0u8; 32];
     for k in 0..32 {
-        c[k] = characters::code(d[k]);
+        c[k] = characters::character_of(d[k]);
     }
     c
 }
@@ -102,16 +102,16 @@ fn in_order(e: &[u8; 32], ss: u8, fs: u8, es: u8, check: u8) -> [u8; 40]
 }
 
 // The 40 characters of the FASC-N with the digits d.
-pub(crate) fn codes_of(d: &[u8; 32]) -> [u8; 40]
+pub(crate) fn characters_of(d: &[u8; 32]) -> [u8; 40]
     ensures { λ r. ⌜ r ≡ charsOf (now (d .entry)) ⌝ }
 {
-    let e = digit_codes(d);
-    let check = characters::code(check_value(d));
+    let e = digit_characters(d);
+    let check = characters::character_of(check_value(d));
     in_order(
         &e,
-        characters::code(SS),
-        characters::code(FS),
-        characters::code(ES),
+        characters::character_of(SS),
+        characters::character_of(FS),
+        characters::character_of(ES),
         check,
     )
 }

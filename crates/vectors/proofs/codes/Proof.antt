@@ -5,4 +5,9 @@ use Rattle.vectors.proofs.codes.Statement.{statement}
 use Rattle.vectors.proofs.codes.Tie as tie
 
 pub codes-spec : {M : Type 1} → statement M
-codes-spec = tie.close (tie.spec (λ x₀ t3 t4 t5 x. x ≤ 10) (λ x₀ t3 t4 t5 x. 10 - x) (λ c. search needs) (λ c. search needs) (λ c. search needs) (λ c κs. search needs) (λ c. search needs) (λ c. search needs) (λ c. search needs) (λ c. search needs) (λ c κs. search needs) (λ c. search needs) (λ c κs. search needs) (λ c. search needs) (λ c κs. search needs) (λ c. search needs))
+codes-spec =
+    tie.close
+    (tie.spec
+    (λ x₀ t3 t4 t5 x. x ≤ 10) (λ x₀ t3 t4 t5 x. 10 - x) (λ c. search needs) (λ c. search needs) (λ c. search needs) (λ c κs. search needs)
+    (λ c. search needs) (λ c. search needs) (λ c. search needs) (λ c. search needs) (λ c κs. search needs) (λ c. search needs) (λ c κs. search needs)
+    (λ c. search needs) (λ c κs. search needs) (λ c. search needs))

@@ -5,4 +5,8 @@ use Rattle.vectors.proofs.print_digits.Statement.{statement}
 use Rattle.vectors.proofs.print_digits.Tie as tie
 
 pub print-digits-spec : {M : Type 1} → statement M
-print-digits-spec = tie.close (tie.spec (λ d k₀ t k. k ≤ 32) (λ d k₀ t k. 32 - k) (λ c. search needs) (λ c. search needs) (λ c κs. search needs) (λ c. search needs) (λ c. search needs) (λ c. search needs) (λ c κs. search needs) (λ c. search needs) (λ c. search needs) (λ c. search needs) (λ c. search needs))
+print-digits-spec =
+    tie.close
+    (tie.spec
+    (λ d k₀ t k. k ≤ 32) (λ d k₀ t k. 32 - k) (λ c. search needs) (λ c. search needs) (λ c κs. search needs) (λ c. search needs) (λ c. search needs)
+    (λ c. search needs) (λ c κs. search needs) (λ c. search needs) (λ c. search needs) (λ c. search needs) (λ c. search needs))

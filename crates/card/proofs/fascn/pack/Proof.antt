@@ -12,9 +12,9 @@ returns c = rw (← c .before .all-decimal .ensures, c .if1 .taken)
 returns-2 : tie.Need-returns-2
 unfolding packOf packRefusal
 returns-2 c =
-    let codes = c .before .before in
-    let accepted = codes .before .before in
-    rw (← accepted .before .all-decimal .ensures, accepted .if1 .left, c .bytes-of .ensures, codes .codes-of .ensures, bytes-chars)
+    let chars = c .before .before in
+    let accepted = chars .before .before in
+    rw (← accepted .before .all-decimal .ensures, accepted .if1 .left, c .bytes-of .ensures, chars .characters-of .ensures, bytes-chars)
 
 pub pack-spec : {M : Type 1} → statement M
 pack-spec = tie.close (tie.spec (λ c κs. search needs) returns (λ c κs. search needs) (λ c κs. search needs) returns-2)

@@ -1,12 +1,13 @@
 -- `card::fascn::characters::bytes_of` meets its contract: a turn stores the five bytes of eight characters. Assumes nothing.
-use mathlib.Core.Path.{_≡_, refl, sym, _∙_}
-use Prim.Native.Nat.{_+_, _-_, _*_, _/_, _%_, _^_, _≤_}
+use mathlib.Core.Path.{_≡_, refl, sym}
+use Prim.Native.Nat.{_-_, _*_, _≤_}
 use native.Mathlib.Omega.{arith}
 use borrow.Author.Needs.{needs}
 use lib.ListN.{length, replicate}
-use Rattle.card.specs.Characters.{written, recut, bytesOfChars}
-use Rattle.card.proofs.RangeLaws.{written-none, written-on, written-all, written-ext}
-use Rattle.card.proofs.CharacterLaws.{recut-digit}
+use Rattle.card.specs.Range.{written}
+use Rattle.card.specs.Characters.{recut, bytesOfChars}
+use Rattle.card.proofs.RangeLaws.{written-none, front-end}
+use Rattle.card.proofs.CharacterLaws.{recut-turn}
 use Rattle.card.proofs.fascn.characters.bytes_of.Statement.{statement}
 use Rattle.card.proofs.fascn.characters.bytes_of.Tie as tie
 
@@ -24,20 +25,11 @@ loop-again c =
     let put = c .before in
     let read = put .before .before in
     let at = read .before .before .before in
-    let s = c .before .before .before .before .before .before .before .args .c .now in
-    let g = at .loop .g in
-    let e : 5 * g + 5 ≡ 5 * (g + 1) = omega arith in
-    let step : written (at .loop .s) (5 * g) 5 (λ j. read .number-in .result / 2 ^ (8 * (5 - 1 - j)) % 2 ^ 8)
-    ≡ written (replicate 25 0) 0 (5 * g + 5) (recut 5 8 s) =
-    rw (read .number-in .ensures, at .loop .inv .1)
-    (written-ext _ (5 * g) 5 (recut-digit 5 8 8 5 refl s g) ∙ written-on (replicate 25 0) (5 * g) 5 (recut 5 8 s)) in
-    (search needs, rw e at (put .put-digits .ensures ∙ step), search needs)
+    (search needs, recut-turn 5 8 8 5 refl _ (at .loop .g) (replicate 25 0) (read .number-in .ensures) (at .loop .inv .1) (put .put-digits .ensures), search needs)
 
 returns : tie.Need-returns Inv-loop μ-loop
 unfolding bytesOfChars
-returns c =
-    let e : c .before .loop .g ≡ 5 = omega arith in
-    (rw e at (c .before .loop .inv .1)) ∙ written-all (replicate 25 0) 25 (recut 5 8 (c .before .before .args .c .now)) refl
+returns c = front-end (replicate 25 0) (5 * c .before .loop .g) _ (omega arith) (c .before .loop .inv .1)
 
 pub bytes-of-spec : {M : Type 1} → statement M
 bytes-of-spec =

@@ -1,12 +1,13 @@
 -- `card::fascn::characters::characters_in` meets its contract: a turn stores the eight characters of five bytes. Assumes nothing.
-use mathlib.Core.Path.{_≡_, refl, sym, _∙_}
-use Prim.Native.Nat.{_+_, _-_, _*_, _/_, _%_, _^_, _≤_}
+use mathlib.Core.Path.{_≡_, refl, sym}
+use Prim.Native.Nat.{_-_, _*_, _≤_}
 use native.Mathlib.Omega.{arith}
 use borrow.Author.Needs.{needs}
 use lib.ListN.{length, replicate}
-use Rattle.card.specs.Characters.{written, recut, charsIn}
-use Rattle.card.proofs.RangeLaws.{written-none, written-on, written-all, written-ext}
-use Rattle.card.proofs.CharacterLaws.{recut-digit}
+use Rattle.card.specs.Range.{written}
+use Rattle.card.specs.Characters.{recut, charsIn}
+use Rattle.card.proofs.RangeLaws.{written-none, front-end}
+use Rattle.card.proofs.CharacterLaws.{recut-turn}
 use Rattle.card.proofs.fascn.characters.characters_in.Statement.{statement}
 use Rattle.card.proofs.fascn.characters.characters_in.Tie as tie
 
@@ -24,20 +25,11 @@ loop-again c =
     let put = c .before in
     let read = put .before .before in
     let at = read .before .before in
-    let s = c .before .before .before .before .before .before .before .args .s .now in
-    let g = at .loop .g in
-    let e : 8 * g + 8 ≡ 8 * (g + 1) = omega arith in
-    let step : written (at .loop .c) (8 * g) 8 (λ j. read .number-in .result / 2 ^ (5 * (8 - 1 - j)) % 2 ^ 5)
-    ≡ written (replicate 40 0) 0 (8 * g + 8) (recut 8 5 s) =
-    rw (read .number-in .ensures, at .loop .inv .1)
-    (written-ext _ (8 * g) 8 (recut-digit 8 5 5 8 refl s g) ∙ written-on (replicate 40 0) (8 * g) 8 (recut 8 5 s)) in
-    (search needs, rw e at (put .put-digits .ensures ∙ step), search needs)
+    (search needs, recut-turn 8 5 5 8 refl _ (at .loop .g) (replicate 40 0) (read .number-in .ensures) (at .loop .inv .1) (put .put-digits .ensures), search needs)
 
 returns : tie.Need-returns Inv-loop μ-loop
 unfolding charsIn
-returns c =
-    let e : c .before .loop .g ≡ 5 = omega arith in
-    (rw e at (c .before .loop .inv .1)) ∙ written-all (replicate 40 0) 40 (recut 8 5 (c .before .before .before .args .s .now)) refl
+returns c = front-end (replicate 40 0) (8 * c .before .loop .g) _ (omega arith) (c .before .loop .inv .1)
 
 pub characters-in-spec : {M : Type 1} → statement M
 characters-in-spec =

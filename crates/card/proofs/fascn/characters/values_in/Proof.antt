@@ -1,12 +1,12 @@
 -- `card::fascn::characters::values_in` meets its contract: a turn stores value i. Assumes nothing.
-use mathlib.Core.Path.{_≡_, refl, sym, _∙_}
+use mathlib.Core.Path.{_≡_, sym}
 use Prim.Native.Nat.{_-_, _≤_}
 use native.Mathlib.Omega.{arith}
 use borrow.Author.Needs.{needs}
 use lib.ListN.{getD, replicate}
-use Rattle.card.specs.Characters.{written, valueChar}
-use Rattle.card.proofs.RangeLaws.{written-none, written-more, written-all}
-use native.Mathlib.Nat.{zero-add}
+use Rattle.card.specs.Range.{written}
+use Rattle.card.specs.Characters.{valueChar}
+use Rattle.card.proofs.RangeLaws.{written-none, front-more, front-end}
 use Rattle.card.proofs.fascn.characters.values_in.Statement.{statement}
 use Rattle.card.proofs.fascn.characters.values_in.Tie as tie
 
@@ -22,12 +22,10 @@ loop-holds c = (search needs, sym (written-none _ _ _))
 loop-again : tie.Need-loop-again Inv-loop μ-loop
 loop-again c =
     let at = c .before .before .before in
-    (search needs, rw zero-add at (written-more (replicate 40 0) 0 (at .loop .i) _ (omega arith) (at .loop .inv .1) (c .value .ensures)))
+    (search needs, front-more (replicate 40 0) (at .loop .i) _ (search needs) (at .loop .inv .1) (c .value .ensures))
 
 returns : tie.Need-returns Inv-loop μ-loop
-returns c =
-    let e : c .before .loop .i ≡ 40 = omega arith in
-    (rw e at (c .before .loop .inv .1)) ∙ written-all (replicate 40 0) 40 _ refl
+returns c = front-end (replicate 40 0) (c .before .loop .i) _ (omega arith) (c .before .loop .inv .1)
 
 pub values-in-spec : {M : Type 1} → statement M
 values-in-spec =

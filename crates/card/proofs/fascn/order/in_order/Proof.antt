@@ -1,7 +1,7 @@
 -- `card::fascn::order::in_order` meets its contract: each run of characters is copied to its place, between the marks. Assumes nothing.
 use borrow.Author.Needs.{needs}
-use Rattle.card.specs.Range.{listOf, run}
-use Rattle.card.specs.Characters.{written, inOrder}
+use Rattle.card.specs.Range.{listOf, run, written}
+use Rattle.card.specs.Characters.{inOrder}
 use Rattle.card.proofs.fascn.order.in_order.Statement.{statement}
 use Rattle.card.proofs.fascn.order.in_order.Tie as tie
 

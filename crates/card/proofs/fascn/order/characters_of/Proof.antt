@@ -1,8 +1,8 @@
--- `card::fascn::order::codes_of` meets its contract: it lays out the characters of the digits and the marks. Assumes nothing.
+-- `card::fascn::order::characters_of` meets its contract: it lays out the characters of the digits and the marks. Assumes nothing.
 use borrow.Author.Needs.{needs}
 use Rattle.card.proofs.OrderLaws.{chars-in-order}
-use Rattle.card.proofs.fascn.order.codes_of.Statement.{statement}
-use Rattle.card.proofs.fascn.order.codes_of.Tie as tie
+use Rattle.card.proofs.fascn.order.characters_of.Statement.{statement}
+use Rattle.card.proofs.fascn.order.characters_of.Tie as tie
 
 returns : tie.Need-returns
 returns c =
@@ -14,17 +14,17 @@ returns c =
     let digits = value .before in
     rw (
       c .in-order .ensures,
-      es .code4 .ensures,
-      fs .code3 .ensures,
-      ss .code2 .ensures,
-      check .code .ensures,
+      es .character-of4 .ensures,
+      fs .character-of3 .ensures,
+      ss .character-of2 .ensures,
+      check .character-of .ensures,
       value .check-value .ensures,
-      digits .digit-codes .ensures,
+      digits .digit-characters .ensures,
     )
     (chars-in-order (digits .before .args .d .now))
 
-pub codes-of-spec : {M : Type 1} → statement M
-codes-of-spec =
+pub characters-of-spec : {M : Type 1} → statement M
+characters-of-spec =
     tie.close
     (tie.spec
     (λ c κs. search needs) (λ c κs. search needs) (λ c κs. search needs) (λ c κs. search needs) (λ c κs. search needs) (λ c κs. search needs)
