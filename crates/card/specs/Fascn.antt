@@ -174,17 +174,17 @@ sameBytes a b = eqb (length a) (length b) && all (length a) (λ i. eqb (getD a i
 
 abbrev pub unpackNumber : UnpackAnswer → ℕ
 unpackNumber unpack-answers.Accepted = 0
-unpackNumber unpack-answers.Length = 15
-unpackNumber unpack-answers.Parity = 16
-unpackNumber unpack-answers.Place = 17
-unpackNumber unpack-answers.Check = 18
+unpackNumber unpack-answers.WrongLength = 15
+unpackNumber unpack-answers.WrongParity = 16
+unpackNumber unpack-answers.OutOfPlace = 17
+unpackNumber unpack-answers.WrongCheck = 18
 
 abbrev pub unpacked : Unpacked → ℕ × List ℕ
 unpacked r = (unpackNumber (r .answer), r .digits)
 
 abbrev pub packNumber : PackAnswer → ℕ
 packNumber pack-answers.Accepted = 0
-packNumber pack-answers.Digit = 19
+packNumber pack-answers.AboveNine = 19
 
 abbrev pub packed : Packed → ℕ × List ℕ
 packed r = (packNumber (r .answer), r .bytes)

@@ -12,10 +12,14 @@ ghost use Rattle.card.specs.Fascn.{unpackNumber, packNumber, unpacked, p
 // What unpack answers: the digits, or the first fault of document 01's list. `unpackNumber` gives the number of each.
 pub enum UnpackAnswer {
     Accepted,
-    Length,
-    Parity,
-    Place,
-    Check,
+    // not 25 bytes
+    WrongLength,
+    // a character with an even count of ones
+    WrongParity,
+    // a mark or a digit out of place
+    OutOfPlace,
+    // a check character that is not the exclusive or of the values before it
+    WrongCheck,
 }
 
 impl UnpackAnswer {
@@ -25,10 +29,10 @@ impl UnpackAnswer {
     {
         match self {
             UnpackAnswer::Accepted => 0,
-            UnpackAnswer::Length => 15,
-            UnpackAnswer::Parity => 16,
-            UnpackAnswer::Place => 17,
-            UnpackAnswer::Check => 18,
+            UnpackAnswer::WrongLength => 15,
+            UnpackAnswer::WrongParity => 16,
+            UnpackAnswer::OutOfPlace => 17,
+            UnpackAnswer::WrongCheck => 18,
         }
     }
 }
@@ -42,7 +46,8 @@ pub struct Unpacked {
 // What pack answers: the bytes, or that a digit is above 9. `packNumber` gives the number of each.
 pub enum PackAnswer {
     Accepted,
-    Digit,
+    // a digit above 9
+    AboveNine,
 }
 
 impl PackAnswer {
@@ -52,7 +57,7 @@ impl PackAnswer {
     {
         match self {
             PackAnswer::Accepted => 0,
-            PackAnswer::Digit => 19,
+            PackAnswer::AboveNine => 19,
         }
     }
 }
@@ -72,19 +77,19 @@ fn judged(odd: bool, placed: bool, check: u8, expected: u8, digits: [u8; 32]) ->
 {
     if !odd {
         return Unpacked {
-            answer: UnpackAnswer::Parity,
+            answer: UnpackAnswer::WrongParity,
             digits: [0; 32],
         };
     }
     if !placed {
         return Unpacked {
-            answer: UnpackAnswer::Place,
+            answer: UnpackAnswer::OutOfPlace,
             digits: [0; 32],
         };
     }
     if check != expected {
         return Unpacked {
-            answer: UnpackAnswer::Check,
+            answer: UnpackAnswer::WrongCheck,
             digits: [0; 32],
         };
     }
@@ -100,7 +105,7 @@ pub fn unpack(s: &[u8]) -> Unpacked
 {
     if s.len() != 25 {
         return Unpacked {
-            answer: UnpackAnswer::Length,
+            answer: UnpackAnswer::WrongLength,
             digits: [0; 32],
         };
     }
@@ -118,7 +123,7 @@ pub fn pack(d: [u8; 32]) -> Packed
 {
     if !order::all_decimal(&d) {
         return Packed {
-            answer: PackAnswer::Digit,
+            answer: PackAnswer::AboveNine,
             bytes: [0; 25],
         };
     }

@@ -90,6 +90,7 @@ fn in_order(e: &[u8; 32], ss: u8, fs: u8, es: u8, check: u8) -> [u8; 40]
 {
     let mut c = [fs; 40];
     c[0] = ss;
+    // the runs of digits_in, the other way
     copy_run(&mut c, 1, e, 0, 4);
     copy_run(&mut c, 6, e, 4, 4);
     copy_run(&mut c, 11, e, 8, 6);
