@@ -14,7 +14,7 @@ use lib.ListN.{length, getD, take, length-append, drop-of-length-le, List·getD-
 use lib.Seq.{getD-append-add, getD-take, length-take-le, take-take, split-at}
 use Rattle.card.specs.Range.{listOf, run, all, xorOf}
 use Rattle.card.specs.Fascn.{Part, mark, field, order, valuesFrom, digitsFrom, marksFrom, digitsIn, marksIn, decimalAt, checkOf, valuesOf}
-use Rattle.card.specs.Characters.{charOf, charsOf, inOrder, checkDigits}
+use Rattle.card.specs.Characters.{charOf, charsOf, remark, inOrder, marksOf, checkDigits}
 use Rattle.card.proofs.RangeLaws.{all-at, length-listOf, listOf-is, listOf-ext, listOf-append}
 use Rattle.card.proofs.XorLaws.{xor-assoc, xor-left-comm, xorOf-append, xorOf-lt}
 
@@ -54,11 +54,6 @@ size [] = 0
 size (mark m ∷ ps) = 1 + size ps
 size (field n ∷ ps) = n + size ps
 
-marks : List Part → List ℕ
-marks [] = []
-marks (mark m ∷ ps) = m ∷ marks ps
-marks (field n ∷ ps) = marks ps
-
 mark-here : (m i : ℕ) (ps : List Part) (v : List ℕ) → marksFrom i (mark m ∷ ps) v ≡ true → (run i 1 v ≡ m ∷ []) × (marksFrom (suc i) ps v ≡ true)
 unfolding marksFrom
 mark-here m i ps v h =
@@ -66,16 +61,16 @@ mark-here m i ps v h =
     (run-one i v ∙ ap (λ (x : ℕ). x ∷ []) (eqb-true _ _ (b .0)), b .1)
 
 -- where the marks stand in their places, the exclusive or of all values is that of the marks and the digits
-xor-parts : (ps : List Part) (i : ℕ) (v : List ℕ) → marksFrom i ps v ≡ true → xorOf (run i (size ps) v) ≡ bitXor (xorOf (marks ps)) (xorOf (digitsFrom i ps v))
-unfolding digitsFrom marksFrom size marks xorOf
+xor-parts : (ps : List Part) (i : ℕ) (v : List ℕ) → marksFrom i ps v ≡ true → xorOf (run i (size ps) v) ≡ bitXor (xorOf (marksOf ps)) (xorOf (digitsFrom i ps v))
+unfolding digitsFrom marksFrom size marksOf xorOf
 xor-parts [] i v h = ap xorOf (run-none i v)
 xor-parts (mark m ∷ ps) i v h =
     let b = mark-here m i ps v h in
     rw (run-append i 1 (size ps) v, b .0, xorOf-append (m ∷ []) (run (i + 1) (size ps) v), add-one, xor-parts ps (suc i) v (b .1), xor-zero-r)
-    (sym (xor-assoc m (xorOf (marks ps)) (xorOf (digitsFrom (suc i) ps v))))
+    (sym (xor-assoc m (xorOf (marksOf ps)) (xorOf (digitsFrom (suc i) ps v))))
 xor-parts (field n ∷ ps) i v h =
     rw (run-append i n (size ps) v, xorOf-append (run i n v) (run (i + n) (size ps) v), xor-parts ps (i + n) v h, xorOf-append (run i n v) (digitsFrom (i + n) ps v))
-    (xor-left-comm (xorOf (run i n v)) (xorOf (marks ps)) (xorOf (digitsFrom (i + n) ps v)))
+    (xor-left-comm (xorOf (run i n v)) (xorOf (marksOf ps)) (xorOf (digitsFrom (i + n) ps v)))
 
 -- and the values of these digits are those values again
 values-back : (ps : List Part) (i : ℕ) (v p : List ℕ) → marksFrom i ps v ≡ true → valuesFrom (length p) ps (p ++ digitsFrom i ps v) ≡ run i (size ps) v
@@ -93,13 +88,9 @@ values-back (field n ∷ ps) i v p h =
 
 -- ---- the order of a FASC-N
 
-marks-xor : (l : List ℕ) → bitXor (xorOf (marks order)) (xorOf l) ≡ bitXor 9 (xorOf l)
-unfolding marks xorOf
-marks-xor l = refl
-
 pub check-values : (d : List ℕ) → checkOf (valuesFrom 0 order d) ≡ checkDigits d
 unfolding checkOf checkDigits valuesFrom digitsFrom marksFrom size run listOf
-check-values d = xor-parts order 0 (valuesFrom 0 order d) refl ∙ marks-xor (listOf 32 (λ k. getD d k 0))
+check-values d = xor-parts order 0 (valuesFrom 0 order d) refl
 
 pub marks-values : (d : List ℕ) → marksIn (valuesOf d) ≡ true
 unfolding valuesOf valuesFrom marksFrom run listOf
@@ -125,12 +116,12 @@ each d = refl
 
 -- the characters of the digits and the marks, in order, are those of the values
 pub chars-in-order : (d : List ℕ) → inOrder (listOf 32 (λ k. charOf (getD d k 0))) (charOf 11) (charOf 13) (charOf 15) (charOf (checkDigits d)) ≡ charsOf d
-unfolding inOrder charsOf valuesOf valuesFrom run listOf
+unfolding inOrder remark charsOf valuesOf valuesFrom run listOf
 chars-in-order d = rw (← check-values d)
 
 -- every value of decimal digits is below 16
 pub values-mod : (d : List ℕ) → length d ≡ 32 → all 32 (decimalAt d) ≡ true → listOf 40 (λ i. getD (valuesOf d) i 0 % 16) ≡ valuesOf d
-unfolding checkDigits decimalAt
+unfolding checkDigits decimalAt marksOf xorOf
 values-mod d e h = each d ∙ ap₂ (λ (l : List ℕ) (x : ℕ). valuesFrom 0 order l ++ (x ∷ [])) same (mod-eq-of-lt check-lt) ∙ sym (values-are d)
   where
     small : (k : ℕ) → k < 32 → getD d k 0 < 16
@@ -140,7 +131,7 @@ values-mod d e h = each d ∙ ap₂ (λ (l : List ℕ) (x : ℕ). valuesFrom 0 o
     same = listOf-is 32 _ d e (λ k l. mod-eq-of-lt (small k l))
 
     check-lt : checkOf (valuesFrom 0 order d) < 16
-    check-lt = rw (check-values d) (xor-lt 4 9 _ (lit< tt) (xorOf-lt 4 (λ k. getD d k 0) 32 small))
+    check-lt = rw (check-values d) (xor-lt 4 (xorOf (marksOf order)) _ (lit< tt) (xorOf-lt 4 (λ k. getD d k 0) 32 small))
 
 -- values with every mark in its place
 module _ (v : List ℕ) (long : length v ≡ 40) (placed : marksIn v ≡ true) where
@@ -149,7 +140,7 @@ module _ (v : List ℕ) (long : length v ≡ 40) (placed : marksIn v ≡ true) w
 
   pub check-digits : checkOf v ≡ checkDigits (digitsIn v)
   unfolding checkOf checkDigits digitsFrom size run listOf
-  check-digits = ap xorOf (sym front) ∙ xor-parts order 0 v placed ∙ marks-xor (digitsIn v)
+  check-digits = ap xorOf (sym front) ∙ xor-parts order 0 v placed
 
   pub values-digits : getD v 39 0 ≡ checkOf v → valuesOf (digitsIn v) ≡ v
   unfolding checkOf size

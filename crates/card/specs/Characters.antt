@@ -1,14 +1,14 @@
 -- How the code goes about it: a character as one number of five bits, the bit sent first highest. No contract of a public function cites this.
 -- Assumes nothing.
 use mathlib.Core.Path.{_≡_}
-use mathlib.Core.Bool.{Bool}
+use mathlib.Core.Bool.{Bool, cond}
 use mathlib.Core.List.{List, [], _∷_, _++_}
 use Prim.Native.Nat.{ℕ, suc, _+_, _-_, _*_, _/_, _%_, _^_, _≤_, _<_}
 use lib.Bits.{bitXor}
 use lib.Dec.{eqb}
 use lib.ListN.{getD}
-use Rattle.card.specs.Range.{listOf, run, number, xorOf}
-use Rattle.card.specs.Fascn.{charBit, valuesOf}
+use Rattle.card.specs.Range.{listOf, number, xorOf}
+use Rattle.card.specs.Fascn.{charBit, Part, mark, field, order, valuesFrom, valuesOf}
 
 -- What number_in asks: the n numbers from place at on lie within len, and n digits to the base fit 64 bits.
 pub record Readable (len at n base : ℕ) : Type 0 where
@@ -52,12 +52,22 @@ charsOf d = listOf 40 (λ i. charOf (getD (valuesOf d) i 0))
 unfoldable pub bytesOfChars : List ℕ → List ℕ
 bytesOfChars c = listOf 25 (recut 5 8 c)
 
--- The numbers e in the places of the digits, ss, fs and es in those of the marks, and check in the last.
-unfoldable pub inOrder : List ℕ → ℕ → ℕ → ℕ → ℕ → List ℕ
-inOrder e ss fs es check =
-    (ss ∷ run 0 4 e) ++ (fs ∷ run 4 4 e) ++ (fs ∷ run 8 6 e) ++ (fs ∷ run 14 1 e) ++ (fs ∷ run 15 1 e) ++ (fs ∷ run 16 16 e)
-    ++ (es ∷ check ∷ [])
+-- The parts ps, with f of each mark in its place.
+unfoldable pub remark : (ℕ → ℕ) → List Part → List Part
+remark f [] = []
+remark f (mark m ∷ ps) = mark (f m) ∷ remark f ps
+remark f (field n ∷ ps) = field n ∷ remark f ps
 
--- The exclusive or of the seven marks, which is 9, and the digits d.
+-- The numbers e in the places of the digits, ss, fs and es in those of SS, FS and ES, and check in the last.
+unfoldable pub inOrder : List ℕ → ℕ → ℕ → ℕ → ℕ → List ℕ
+inOrder e ss fs es check = valuesFrom 0 (remark (λ m. cond (eqb m 11) ss (cond (eqb m 13) fs es)) order) e ++ (check ∷ [])
+
+-- The marks among the parts ps.
+unfoldable pub marksOf : List Part → List ℕ
+marksOf [] = []
+marksOf (mark m ∷ ps) = m ∷ marksOf ps
+marksOf (field n ∷ ps) = marksOf ps
+
+-- The exclusive or of the marks and the digits d.
 unfoldable pub checkDigits : List ℕ → ℕ
-checkDigits d = bitXor 9 (xorOf (listOf 32 (λ k. getD d k 0)))
+checkDigits d = bitXor (xorOf (marksOf order)) (xorOf (listOf 32 (λ k. getD d k 0)))

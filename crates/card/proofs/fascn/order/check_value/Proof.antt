@@ -6,25 +6,26 @@ use borrow.Author.Needs.{needs}
 use lib.Bits.{bitXor}
 use lib.ListN.{getD}
 use Rattle.card.specs.Range.{listOf, xorOf}
-use Rattle.card.specs.Characters.{checkDigits}
+use Rattle.card.specs.Fascn.{order}
+use Rattle.card.specs.Characters.{marksOf, checkDigits}
 use Rattle.card.proofs.XorLaws.{xorOf-more}
 use Rattle.card.proofs.fascn.order.check_value.Statement.{statement}
 use Rattle.card.proofs.fascn.order.check_value.Tie as tie
 
 abbrev Inv-loop : tie.InvT-loop
-Inv-loop d x₀ k₀ x k = (k ≤ 32) × (x ≡ bitXor 9 (xorOf (listOf k (λ j. getD d j 0))))
+Inv-loop d x₀ k₀ x k = (k ≤ 32) × (x ≡ bitXor (xorOf (marksOf order)) (xorOf (listOf k (λ j. getD d j 0))))
 
 abbrev μ-loop : tie.MeasureT-loop
 μ-loop d x₀ k₀ x k = 32 - k
 
 loop-holds : tie.Need-loop-holds Inv-loop μ-loop
-unfolding listOf xorOf
+unfolding listOf xorOf marksOf
 loop-holds c = (search needs, refl)
 
 loop-again : tie.Need-loop-again Inv-loop μ-loop
 loop-again c =
     let at = c .before .before in
-    (search needs, xorOf-more 9 (λ j. getD (at .before .args .d .now) j 0) (at .loop .k) (at .loop .inv .1))
+    (search needs, xorOf-more (xorOf (marksOf order)) (λ j. getD (at .before .args .d .now) j 0) (at .loop .k) (at .loop .inv .1))
 
 returns : tie.Need-returns Inv-loop μ-loop
 unfolding checkDigits

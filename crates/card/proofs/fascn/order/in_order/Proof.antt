@@ -1,12 +1,13 @@
 -- `card::fascn::order::in_order` meets its contract: each run of characters is copied to its place, between the marks. Assumes nothing.
 use borrow.Author.Needs.{needs}
 use Rattle.card.specs.Range.{listOf, run, written}
-use Rattle.card.specs.Characters.{inOrder}
+use Rattle.card.specs.Fascn.{valuesFrom}
+use Rattle.card.specs.Characters.{inOrder, remark}
 use Rattle.card.proofs.fascn.order.in_order.Statement.{statement}
 use Rattle.card.proofs.fascn.order.in_order.Tie as tie
 
 returns : tie.Need-returns
-unfolding written inOrder run listOf
+unfolding written inOrder remark valuesFrom run listOf
 returns c =
     let run6 = c .before in
     let run5 = run6 .before .before .before .before in
