@@ -77,20 +77,8 @@ fn print_refusal(number: u8) {
     print(b"\n");
 }
 
-// The digits, the check character, the key, and the bytes that the digits pack to; or the refusal.
-fn unpack_line(place: &[u8], s: &[u8]) {
-    print(place);
-    print(b": unpack ");
-    print_hex(s);
-    print(b" gives ");
-    let u = fascn::unpack(s);
-    let answer = u.answer;
-    let number = answer.number();
-    if number != 0 {
-        print_refusal(number);
-        return;
-    }
-    let d = u.digits;
+// The digits, the check character, the key, and the bytes that the digits pack to.
+fn print_unpacked(d: [u8; 32]) {
     print_digits(d);
     let p = fascn::pack(d);
     let again = p.bytes;
@@ -102,6 +90,23 @@ fn unpack_line(place: &[u8], s: &[u8]) {
     print(b", packed again ");
     print_hex(&again);
     print(b"\n");
+}
+
+// What unpack says of the bytes s.
+fn unpack_line(place: &[u8], s: &[u8]) {
+    print(place);
+    print(b": unpack ");
+    print_hex(s);
+    print(b" gives ");
+    let u = fascn::unpack(s);
+    let answer = u.answer;
+    let number = answer.number();
+    if number != 0 {
+        print_refusal(number);
+    } else {
+        let d = u.digits;
+        print_unpacked(d);
+    }
 }
 
 // A character of the FASC-N whose digits are all x.
