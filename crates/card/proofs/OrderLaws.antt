@@ -88,6 +88,15 @@ values-back (field n ∷ ps) i v p h =
 
 -- ---- the order of a FASC-N
 
+-- 39 characters before the check character, and 32 digits
+pub length-front : (d : List ℕ) → length (valuesFrom 0 order d) ≡ 39
+unfolding valuesFrom run listOf
+length-front d = refl
+
+pub length-digits : (v : List ℕ) → length (digitsIn v) ≡ 32
+unfolding digitsFrom run listOf
+length-digits v = refl
+
 pub check-values : (d : List ℕ) → checkOf (valuesFrom 0 order d) ≡ checkDigits d
 unfolding checkOf checkDigits valuesFrom digitsFrom marksFrom size run listOf
 check-values d = xor-parts order 0 (valuesFrom 0 order d) refl

@@ -95,31 +95,32 @@ order =
     SS ∷ agency ∷ FS ∷ system ∷ FS ∷ credential ∷ FS ∷ series ∷ FS ∷ issue ∷ FS ∷ person ∷ category ∷ organisation ∷ association
     ∷ ES ∷ []
 
--- The values of the parts ps, of which the first digit is number k of the digits d.
+-- The values of the parts ps, whose first digit is digit k of the digits d.
 unfoldable pub valuesFrom : ℕ → List Part → List ℕ → List ℕ
 valuesFrom k [] d = []
 valuesFrom k (mark m ∷ ps) d = m ∷ valuesFrom k ps d
 valuesFrom k (field n ∷ ps) d = run k n d ++ valuesFrom (k + n) ps d
 
--- The digits in the places of the parts ps, of which the first is character i of the values v.
+-- The digits of the parts ps, whose first character is character i of the values v.
 unfoldable pub digitsFrom : ℕ → List Part → List ℕ → List ℕ
 digitsFrom i [] v = []
 digitsFrom i (mark m ∷ ps) v = digitsFrom (suc i) ps v
 digitsFrom i (field n ∷ ps) v = run i n v ++ digitsFrom (i + n) ps v
 
--- Each mark of the parts ps, of which the first is character i, stands in its place among the values v.
+-- Every mark of the parts ps, whose first character is character i of the values v, stands in its place.
 unfoldable pub marksFrom : ℕ → List Part → List ℕ → Bool
 marksFrom i [] v = true
 marksFrom i (mark m ∷ ps) v = eqb (getD v i 0) m && marksFrom (suc i) ps v
 marksFrom i (field n ∷ ps) v = marksFrom (i + n) ps v
 
+-- The digits among the 40 values v, and whether every mark stands in its place among them.
 abbrev pub digitsIn : List ℕ → List ℕ
 digitsIn v = digitsFrom 0 order v
 
 abbrev pub marksIn : List ℕ → Bool
 marksIn v = marksFrom 0 order v
 
--- The number k of the digits d is at most 9.
+-- Digit k of the digits d is at most 9.
 unfoldable pub decimalAt : List ℕ → ℕ → Bool
 decimalAt d k = leb (getD d k 0) 9
 
@@ -170,7 +171,7 @@ keyOf d = number 10 16 (λ k. getD d k 0)
 unfoldable pub sameBytes : List ℕ → List ℕ → Bool
 sameBytes a b = eqb (length a) (length b) && all (length a) (λ i. eqb (getD a i 0) (getD b i 0))
 
--- ---- the numbers of the answers
+-- ---- the answers of the code: document 01's number of each case, and the values beside it
 
 abbrev pub unpackNumber : UnpackAnswer → ℕ
 unpackNumber unpack-answers.Accepted = 0
