@@ -5,6 +5,9 @@ use borrow.Author.Tests.{eq-eqb, ne-eqb, not-true, not-false}
 use Rattle.card.proofs.fascn.judged.Statement.{statement}
 use Rattle.card.proofs.fascn.judged.Tie as tie
 
+returns : tie.Need-returns
+returns c = rw (c .if1 .taken)
+
 returns-2 : tie.Need-returns-2
 returns-2 c =
     let odd : c .before .before .args .odd ≡ true = not-false _ (c .before .if1 .left) in
@@ -24,4 +27,4 @@ returns-4 c =
     rw (odd, placed, eq-eqb _ _ (c .if3 .left))
 
 pub judged-spec : {M : Type 1} → statement M
-judged-spec = tie.close (tie.spec (λ c. rw (c .if1 .taken)) returns-2 returns-3 returns-4)
+judged-spec = tie.close (tie.spec returns returns-2 returns-3 returns-4)
