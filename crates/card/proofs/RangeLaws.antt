@@ -74,8 +74,8 @@ pub written-none : (l : List ℕ) (at : ℕ) (f : ℕ → ℕ) → written l at 
 unfolding written listOf
 written-none l at f = rw (add-zero, append-nil) (take-append-drop at l)
 
-length-front : (l : List ℕ) (at n : ℕ) (f : ℕ → ℕ) → at + n ≤ length l → length (take at l ++ listOf n f) ≡ at + n
-length-front l at n f h = rw (length-append, length-take-le at l (omega arith), length-listOf)
+length-before : (l : List ℕ) (at n : ℕ) (f : ℕ → ℕ) → at + n ≤ length l → length (take at l ++ listOf n f) ≡ at + n
+length-before l at n f h = rw (length-append, length-take-le at l (omega arith), length-listOf)
 
 pub written-more : (l : List ℕ) (at n : ℕ) (f : ℕ → ℕ) {m : List ℕ} {x : ℕ} → at + n < length l → m ≡ written l at n f → x ≡ f n
     → set m (at + n) x ≡ written l at (n + 1) f
@@ -83,12 +83,12 @@ unfolding written listOf
 written-more l at n f {m} {x} h p q =
     let front = take at l ++ listOf n f in
     let e : m ≡ front ++ (getD l (at + n) 0 ∷ drop (suc (at + n)) l) = p ∙ ap (λ (t : List ℕ). front ++ t) (drop-cons l (at + n) 0 h) in
-    rw (e, q, set-at front (getD l (at + n) 0) (drop (suc (at + n)) l) (f n) (at + n) (length-front l at n f (omega arith)), add-one, add-suc, ← append-assoc)
+    rw (e, q, set-at front (getD l (at + n) 0) (drop (suc (at + n)) l) (f n) (at + n) (length-before l at n f (omega arith)), add-one, add-suc, ← append-assoc)
     (sym (append-snoc front (f n) (drop (suc (at + n)) l)))
 
 pub length-written : (l : List ℕ) (at n : ℕ) (f : ℕ → ℕ) → at + n ≤ length l → length (written l at n f) ≡ length l
 unfolding written
-length-written l at n f h = rw (length-append, length-front l at n f h, length-drop) (omega arith)
+length-written l at n f h = rw (length-append, length-before l at n f h, length-drop) (omega arith)
 
 pub written-ext : (l : List ℕ) (at n : ℕ) {f g : ℕ → ℕ} → ((i : ℕ) → i < n → f i ≡ g i) → written l at n f ≡ written l at n g
 unfolding written

@@ -145,7 +145,7 @@ pub fn key_of(d: [u8; 32]) -> Key
     Key(n)
 }
 
-// Two FASC-Ns are equal where all their bytes are. Every byte is looked at, so the time does not tell where they differ.
+// Two FASC-Ns are equal where all their bytes are. Every byte is looked at: there is no early exit.
 pub fn equal(a: &[u8], b: &[u8]) -> bool
     ensures { λ r. ⌜ r ≡ sameBytes (now (a .entry)) (now (b .entry)) ⌝ }
 {
