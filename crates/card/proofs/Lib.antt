@@ -3,6 +3,18 @@
 pub mod RangeLaws
 -- NumberLaws: numbers and their digits to a base
 pub mod NumberLaws
+-- TlvLaws: the header of a TLV
+pub mod TlvLaws
+-- EncoderLaws: what the encoder makes is read back, and what is read is what the encoder makes
+pub mod EncoderLaws
+-- DateLaws: dates, and the order of days
+pub mod DateLaws
+-- TemplateLaws: the TLVs of a list, and the walk over them
+pub mod TemplateLaws
+-- ObjectLaws: fields and data objects
+pub mod ObjectLaws
+-- CommandLaws: commands, and the buffer that they are written to
+pub mod CommandLaws
 -- XorLaws: the exclusive or
 pub mod XorLaws
 -- CharacterLaws: bytes, characters and values

@@ -167,10 +167,6 @@ packOf d = packAnswer (packRefusal d) (bytesOf (valuesOf d))
 unfoldable pub keyOf : List ℕ → ℕ
 keyOf d = number 10 16 (λ k. getD d k 0)
 
--- Two FASC-Ns are equal where all their bytes are.
-unfoldable pub sameBytes : List ℕ → List ℕ → Bool
-sameBytes a b = eqb (length a) (length b) && all (length a) (λ i. eqb (getD a i 0) (getD b i 0))
-
 -- ---- the answers of the code: document 01's number of each case, and the values beside it
 
 abbrev pub unpackNumber : UnpackAnswer → ℕ

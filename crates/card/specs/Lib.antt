@@ -3,7 +3,17 @@
 pub mod Range
 -- Refusal: the first condition of a list that fits
 pub mod Refusal
--- Fascn: the FASC-N, to be read against document 01
+-- Fascn: the FASC-N
 pub mod Fascn
--- Characters: how the code goes about it; no public contract cites it
+-- Tlv: the header of a TLV, and an encoder
+pub mod Tlv
+-- Template: the SELECT answer
+pub mod Template
+-- Object: the data objects and their fields
+pub mod Object
+-- Date: field 35, and the calendar
+pub mod Date
+-- Command: commands and status words
+pub mod Command
+-- Characters: how the code goes about the FASC-N; no public contract cites it
 pub mod Characters

@@ -4,7 +4,8 @@ use mathlib.Core.Bool.{Bool, true, _&&_}
 use mathlib.Core.List.{List, [], _∷_, _++_}
 use Prim.Native.Nat.{ℕ, zero, suc, _+_, _*_}
 use lib.Bits.{bitXor}
-use lib.ListN.{getD, take, drop}
+use lib.Dec.{eqb}
+use lib.ListN.{length, getD, take, drop}
 
 -- f 0, f 1, .., f (n - 1)
 unfoldable pub listOf : ℕ → (ℕ → ℕ) → List ℕ
@@ -33,3 +34,7 @@ number b (suc n) f = number b n f * b + f n
 unfoldable pub xorOf : List ℕ → ℕ
 xorOf [] = 0
 xorOf (x ∷ l) = bitXor x (xorOf l)
+
+-- two lists have the same bytes, and as many
+unfoldable pub sameBytes : List ℕ → List ℕ → Bool
+sameBytes a b = eqb (length a) (length b) && all (length a) (λ i. eqb (getD a i 0) (getD b i 0))

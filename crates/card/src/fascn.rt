@@ -2,12 +2,14 @@
 mod characters;
 mod order;
 
+use crate::bytes;
 ghost use mathlib.Core.Path.{_≡_};
 ghost use mathlib.Core.Bool.{not};
 ghost use mathlib.Core.List.{[], _∷_};
 ghost use lib.Dec.{eqb};
+ghost use Rattle.card.specs.Range.{sameBytes};
 ghost use Rattle.card.specs.Refusal.{refusalOf};
-ghost use Rattle.card.specs.Fascn.{unpackNumber, packNumber, unpacked, packed, unpackAnswer, unpackOf, packOf, keyOf, sameBytes};
+ghost use Rattle.card.specs.Fascn.{unpackNumber, packNumber, unpacked, packed, unpackAnswer, unpackOf, packOf, keyOf};
 
 // What unpack answers: the digits, or the first fault of document 01's list. `unpackNumber` gives the number of each.
 pub enum UnpackAnswer {
@@ -145,16 +147,9 @@ pub fn key_of(d: [u8; 32]) -> Key
     Key(n)
 }
 
-// Two FASC-Ns are equal where all their bytes are. Every byte is looked at: there is no early exit.
+// Two FASC-Ns are equal where all their bytes are.
 pub fn equal(a: &[u8], b: &[u8]) -> bool
     ensures { λ r. ⌜ r ≡ sameBytes (now (a .entry)) (now (b .entry)) ⌝ }
 {
-    if a.len() != b.len() {
-        return false;
-    }
-    let mut same = true;
-    for i in 0..a.len() {
-        same = same & (a[i] == b[i]);
-    }
-    same
+    bytes::same(a, b)
 }

@@ -1,2 +1,8 @@
-// The card's language, proved: what a transport worker's card (TWIC) sends, as document 01 lays it down.
+// The card's language (document 01): the FASC-N, TLVs, the SELECT answer's template, data objects, dates and commands.
+mod bytes;
+pub mod command;
+pub mod date;
 pub mod fascn;
+pub mod object;
+pub mod template;
+pub mod tlv;

@@ -1,4 +1,4 @@
--- `card::fascn::order::copy_run` meets its contract: a turn stores number j. Assumes nothing.
+-- `card::bytes::copy_run` meets its contract: a turn stores number j. Assumes nothing.
 use mathlib.Core.Path.{_≡_, refl, sym, ap, _∙_}
 use Prim.Native.Nat.{_+_, _-_, _≤_}
 use native.Mathlib.Omega.{arith}
@@ -6,8 +6,8 @@ use borrow.Author.Needs.{needs}
 use lib.ListN.{length, getD}
 use Rattle.card.specs.Range.{written}
 use Rattle.card.proofs.RangeLaws.{written-none, written-more, length-written}
-use Rattle.card.proofs.fascn.order.copy_run.Statement.{statement}
-use Rattle.card.proofs.fascn.order.copy_run.Tie as tie
+use Rattle.card.proofs.bytes.copy_run.Statement.{statement}
+use Rattle.card.proofs.bytes.copy_run.Tie as tie
 
 abbrev Inv-loop : tie.InvT-loop
 Inv-loop dst₀ at src from n j₀ dst j = (j ≤ n) × (dst ≡ written dst₀ at j (λ i. getD src (from + i) 0))

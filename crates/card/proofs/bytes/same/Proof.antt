@@ -1,4 +1,4 @@
--- `card::fascn::equal` meets its contract: a turn adds its test. Assumes nothing.
+-- `card::bytes::same` meets its contract: a turn adds its test. Assumes nothing.
 use mathlib.Core.Path.{_≡_, refl}
 use Prim.Native.Nat.{_-_, _≤_}
 use native.Mathlib.Omega.{arith}
@@ -6,11 +6,10 @@ use borrow.Author.Needs.{needs}
 use borrow.Author.Tests.{eq-eqb, ne-eqb}
 use lib.Dec.{eqb}
 use lib.ListN.{length, getD}
-use Rattle.card.specs.Range.{all}
-use Rattle.card.specs.Fascn.{sameBytes}
+use Rattle.card.specs.Range.{all, sameBytes}
 use Rattle.card.proofs.RangeLaws.{all-more}
-use Rattle.card.proofs.fascn.equal.Statement.{statement}
-use Rattle.card.proofs.fascn.equal.Tie as tie
+use Rattle.card.proofs.bytes.same.Statement.{statement}
+use Rattle.card.proofs.bytes.same.Tie as tie
 
 abbrev Inv-loop : tie.InvT-loop
 Inv-loop a b same₀ i₀ end same i = (i ≤ length a) × (end ≡ length a) × (same ≡ all i (λ j. eqb (getD a j 0) (getD b j 0)))
@@ -37,9 +36,9 @@ returns-2 c =
     let e : c .before .loop .i ≡ length (c .before .before .before .args .a .now) = omega arith in
     rw (eq-eqb _ _ (c .before .before .if1 .left), ← e) (c .before .loop .inv .2)
 
-pub equal-spec : {M : Type 1} → statement M
+pub same-spec : {M : Type 1} → statement M
 unfolding all
-equal-spec =
+same-spec =
     tie.close
     (tie.spec
     Inv-loop μ-loop returns (λ c. search needs) (λ c. search needs) (λ c. search needs) (λ c. search needs) (λ c. search needs) loop-again returns-2)

@@ -1,0 +1,30 @@
+-- `card::command::get_data` meets its contract: each store lengthens the front. Assumes nothing.
+use mathlib.Core.Path.{refl, sym, _∙_}
+use borrow.Author.Needs.{needs}
+use Rattle.card.specs.Command.{getDataBytes, getDataOf}
+use Rattle.card.proofs.CommandLaws.{stored-first, stored-next, tag-length, get-data-length, command-fits, command-short}
+use Rattle.card.proofs.command.get_data.Statement.{statement}
+use Rattle.card.proofs.command.get_data.Tie as tie
+
+returns : tie.Need-returns
+unfolding getDataOf
+returns c = command-short (getDataBytes (c .before .before .args .kind)) _ (rw get-data-length (c .if1 .taken))
+
+returns-2 : tie.Need-returns-2
+unfolding getDataBytes getDataOf
+returns-2 c =
+    let at2 = c .before .before .before .before .before .before .before in
+    let at1 = at2 .before .before .before .before .before in
+    let tag = at1 .before .before .before in
+    let a = tag .before .before .before .args in
+    let first = at1 .put .ensures ∙ stored-first _ _ in
+    let second = rw (tag .object-tag .ensures) at (at2 .put2 .ensures) ∙ stored-next _ _ _ first refl in
+    command-fits (getDataBytes (a .kind)) (a .out .now) (rw get-data-length (tag .before .if1 .left)) (sym (get-data-length (a .kind)))
+    (c .before .before .put3 .ensures ∙ stored-next _ _ _ second (rw tag-length))
+
+pub get-data-spec : {M : Type 1} → statement M
+get-data-spec =
+    tie.close
+    (tie.spec
+    returns (λ c κs. search needs) (λ c. search needs) (λ c κs. search needs) (λ c. search needs) (λ c κs. search needs) (λ c. search needs)
+    (λ c κs. search needs) (λ c. search needs) returns-2)

@@ -1,0 +1,20 @@
+-- `card::template::note` meets its contract: at each return the tests that led there pick the case. Assumes nothing.
+use borrow.Author.Tests.{eq-eqb, ne-eqb}
+use Rattle.card.specs.Template.{noted}
+use Rattle.card.proofs.template.note.Statement.{statement}
+use Rattle.card.proofs.template.note.Tie as tie
+
+returns : tie.Need-returns
+unfolding noted
+returns c = rw (ne-eqb _ _ (c .if1 .taken))
+
+returns-2 : tie.Need-returns-2
+unfolding noted
+returns-2 c = rw (eq-eqb _ _ (c .before .if1 .left), c .if2 .taken)
+
+returns-3 : tie.Need-returns-3
+unfolding noted
+returns-3 c = rw (eq-eqb _ _ (c .before .if1 .left), c .if2 .left)
+
+pub note-spec : {M : Type 1} → statement M
+note-spec = tie.close (tie.spec returns returns-2 returns-3)

@@ -1,0 +1,79 @@
+-- Commands (document 01, section Commands), and the status words of answers.
+-- Assumes nothing.
+use mathlib.Core.Bool.{Bool, cond, not, _&&_}
+use mathlib.Core.List.{List, [], _∷_, _++_}
+use Prim.Native.Nat.{ℕ, _+_}
+use lib.Dec.{eqb, ltb, leb}
+use lib.ListN.{length, getD, take, drop}
+use Rattle.card.specs.Range.{sameBytes}
+use Rattle.card.specs.Refusal.{refusalOf}
+use Rattle.card.specs.Object.{objectTag}
+use Rattle.card.specs.declared.object.Kind.{Kind}
+use Rattle.card.specs.declared.command.CommandAnswer.{CommandAnswer}
+use Rattle.card.specs.declared.command.CommandAnswer.the-variants.{Written, WrongAid, ShortBuffer}
+use Rattle.card.specs.declared.command.Status.{Status}
+use Rattle.card.specs.declared.command.Status.the-variants.{Done, More, Other}
+
+-- ---- the bytes of a command
+
+-- SELECT: 00 A4 04 00, AID length, AID, 00.
+unfoldable pub selectBytes : List ℕ → List ℕ
+selectBytes aid = (0x00 ∷ 0xA4 ∷ 0x04 ∷ 0x00 ∷ []) ++ (length aid ∷ []) ++ aid ++ (0x00 ∷ [])
+
+-- GET DATA: 00 CB 3F FF 05 5C 03, three tag bytes, 00.
+unfoldable pub getDataBytes : Kind → List ℕ
+getDataBytes k = (0x00 ∷ 0xCB ∷ 0x3F ∷ 0xFF ∷ 0x05 ∷ 0x5C ∷ 0x03 ∷ []) ++ objectTag k ++ (0x00 ∷ [])
+
+-- GET RESPONSE: 00 C0 00 00, then the second status byte of the answer just taken.
+unfoldable pub getResponseBytes : ℕ → List ℕ
+getResponseBytes second = (0x00 ∷ 0xC0 ∷ 0x00 ∷ 0x00 ∷ []) ++ (second ∷ [])
+
+-- ---- writing it
+
+-- The bytes s over the front of l, and over those from place `at` on.
+unfoldable pub front : List ℕ → List ℕ → List ℕ
+front s l = s ++ drop (length s) l
+
+unfoldable pub stored : List ℕ → ℕ → List ℕ → List ℕ
+stored l at s = take at l ++ s ++ drop (at + length s) l
+
+-- What a command gives: number, count of bytes, and the buffer then. A refused one (number n is not 0) writes nothing.
+unfoldable pub commandOf : ℕ → List ℕ → List ℕ → (ℕ × ℕ) × List ℕ
+commandOf n c out = cond (eqb n 0) ((0, length c), front c out) ((n, 0), out)
+
+-- Open's condition 3, AID not 5–16 bytes, and command's 6, buffer shorter than the command.
+abbrev pub aidRefused : List ℕ → Bool
+aidRefused aid = not (leb 5 (length aid) && leb (length aid) 16)
+
+abbrev pub tooShort : List ℕ → List ℕ → Bool
+tooShort out c = ltb (length out) (length c)
+
+unfoldable pub selectOf : List ℕ → List ℕ → (ℕ × ℕ) × List ℕ
+selectOf aid out =
+    commandOf (refusalOf ((3, aidRefused aid) ∷ (6, tooShort out (selectBytes aid)) ∷ [])) (selectBytes aid) out
+
+unfoldable pub getDataOf : Kind → List ℕ → (ℕ × ℕ) × List ℕ
+getDataOf k out = commandOf (refusalOf ((6, tooShort out (getDataBytes k)) ∷ [])) (getDataBytes k) out
+
+unfoldable pub getResponseOf : ℕ → List ℕ → (ℕ × ℕ) × List ℕ
+getResponseOf second out =
+    commandOf (refusalOf ((6, tooShort out (getResponseBytes second)) ∷ [])) (getResponseBytes second) out
+
+-- The answer of the code: document 01's number of each case, and the count beside it.
+abbrev pub commandNumber : CommandAnswer → ℕ
+commandNumber (Written n) = 0
+commandNumber WrongAid = 3
+commandNumber ShortBuffer = 6
+
+abbrev pub commandAnswer : CommandAnswer → ℕ × ℕ
+commandAnswer (Written n) = (0, n)
+commandAnswer WrongAid = (3, 0)
+commandAnswer ShortBuffer = (6, 0)
+
+-- ---- status words
+
+-- "Status neither 90 00 nor 61 with any second byte" is another.
+unfoldable pub statusOf : List ℕ → Status
+statusOf s =
+    cond (not (eqb (length s) 2)) Other
+    (cond (sameBytes s (0x90 ∷ 0x00 ∷ [])) Done (cond (sameBytes (take 1 s) (0x61 ∷ [])) (More (getD s 1 0)) Other))

@@ -1,0 +1,109 @@
+-- Data objects (document 01, section Objects): "A data object is one TLV with tag 53 and nothing after; its value holds one-byte-tag fields, each once, in
+-- this order". Fields are not opened further.
+-- Assumes nothing.
+use mathlib.Core.Bool.{Bool, true, false, cond, _&&_}
+use mathlib.Core.List.{List, [], _∷_, _++_}
+use Prim.Native.Nat.{ℕ, _+_, _-_}
+use lib.Dec.{eqb, leb}
+use lib.ListN.{length, take, drop, replicate}
+use Rattle.card.specs.Tlv.{headerOf, onlyOf}
+use Rattle.card.specs.declared.tlv.Header.{Header}
+use Rattle.card.specs.declared.tlv.Header.the-variants.{Whole, Malformed}
+use Rattle.card.specs.declared.object.Kind.{Kind}
+use Rattle.card.specs.declared.object.Kind.the-variants.{Signed, Unsigned, Fingers}
+use Rattle.card.specs.declared.object.Row.{Row}
+use Rattle.card.specs.declared.object.Part.{Part}
+use Rattle.card.specs.declared.object.Field.{Field}
+use Rattle.card.specs.declared.object.Object.{Object}
+use Rattle.card.specs.declared.object.ObjectAnswer.{ObjectAnswer}
+use Rattle.card.specs.declared.object.ObjectAnswer.the-variants as object-answers
+
+-- ---- the rows
+
+-- A field with a tag, of so many bytes at least and at most: it has to be there, or it may be absent.
+abbrev pub field : ℕ → ℕ → ℕ → Row
+field tag least greatest = record { 0 = tag; 1 = least; 2 = greatest; 3 = false }
+
+abbrev pub optional : ℕ → ℕ → ℕ → Row
+optional tag least greatest = record { 0 = tag; 1 = least; 2 = greatest; 3 = true }
+
+-- 5FC102, signed: 30 (25 bytes), 34 (16), 35 (8), 3E (1 to 2,816), FE (0).
+-- 5FC104, unsigned (layout fixed here): 30 (25), 34 (16, may be absent), 35 (8), FE (0).
+-- DFC103, fingers: BC (1 to 862), FE (0, may be absent).
+unfoldable pub rowsOf : Kind → List Row
+rowsOf Signed = field 0x30 25 25 ∷ field 0x34 16 16 ∷ field 0x35 8 8 ∷ field 0x3E 1 2816 ∷ field 0xFE 0 0 ∷ []
+rowsOf Unsigned = field 0x30 25 25 ∷ optional 0x34 16 16 ∷ field 0x35 8 8 ∷ field 0xFE 0 0 ∷ []
+rowsOf Fingers = field 0xBC 1 862 ∷ optional 0xFE 0 0 ∷ []
+
+-- The tag by which GET DATA asks for the object.
+unfoldable pub objectTag : Kind → List ℕ
+objectTag Signed = 0x5F ∷ 0xC1 ∷ 0x02 ∷ []
+objectTag Unsigned = 0x5F ∷ 0xC1 ∷ 0x04 ∷ []
+objectTag Fingers = 0xDF ∷ 0xC1 ∷ 0x03 ∷ []
+
+-- ---- the fields
+
+-- Where a value lies in the whole object; the part of an absent field.
+abbrev pub part : ℕ → ℕ → Part
+part start len = record { start = start; len = len }
+
+abbrev pub empty : Part
+empty = part 0 0
+
+-- The row's field is absent at a place: the next row's is looked for there.
+abbrev pub absent : Row → ℕ → Field
+absent r at = record { ok = r .3; part = empty; next = at }
+
+-- The row's field at place `at` of a value that begins at place `base` of the whole, by the header of the TLV that stands there.
+unfoldable pub fieldFrom : Header → ℕ → Row → ℕ → Field
+fieldFrom Malformed base r at = absent r at
+fieldFrom (Whole tag nested start len) base r at =
+    cond (eqb tag (r .0))
+    (record { ok = leb (r .1) len && leb len (r .2); part = part (base + (at + start)) len; next = at + start + len })
+    (absent r at)
+
+unfoldable pub fieldOf : List ℕ → ℕ → Row → ℕ → Field
+fieldOf v base r at = fieldFrom (headerOf (drop at v)) base r at
+
+-- The fields of the rows from place `at` of the value v on: whether each is as its row asks and nothing follows the last, and their parts.
+unfoldable pub fieldsFrom : List ℕ → ℕ → List Row → ℕ → Bool × List Part
+fieldsFrom v base [] at = (eqb at (length v), [])
+fieldsFrom v base (r ∷ rs) at =
+    let f = fieldOf v base r at in
+    let after = fieldsFrom v base rs (f .next) in
+    (f .ok && after .0, f .part ∷ after .1)
+
+-- ---- the object
+
+-- Cause 0 and the parts, with empty ones up to 5; or cause 20 and five empty parts.
+unfoldable pub fieldsAnswer : Bool × List Part → ℕ × List Part
+fieldsAnswer f = cond (f .0) (0, f .1 ++ replicate (5 - length (f .1)) empty) (20, replicate 5 empty)
+
+unfoldable pub objectFrom : Header → Kind → List ℕ → ℕ × List Part
+objectFrom Malformed k s = (20, replicate 5 empty)
+objectFrom (Whole tag nested start len) k s = fieldsAnswer (fieldsFrom (take len (drop start s)) start (rowsOf k) 0)
+
+unfoldable pub objectOf : Kind → List ℕ → ℕ × List Part
+objectOf k s = objectFrom (onlyOf 0x53 s) k s
+
+-- The part of the field with a tag, among the parts of some rows' fields.
+unfoldable pub partIn : List Row → List Part → ℕ → Part
+partIn [] ps tag = empty
+partIn (r ∷ rs) [] tag = empty
+partIn (r ∷ rs) (p ∷ ps) tag = cond (eqb (r .0) tag) p (partIn rs ps tag)
+
+-- The bytes of a part of s; the value of the field with a tag in the object s.
+unfoldable pub bytesAt : List ℕ → Part → List ℕ
+bytesAt s p = take (p .len) (drop (p .start) s)
+
+unfoldable pub fieldValue : Kind → ℕ → List ℕ → List ℕ
+fieldValue k tag s = bytesAt s (partIn (rowsOf k) (objectOf k s .1) tag)
+
+-- ---- the answer of the code: document 01's cause of each case, and the parts beside it
+
+abbrev pub objectNumber : ObjectAnswer → ℕ
+objectNumber object-answers.Accepted = 0
+objectNumber object-answers.Malformed = 20
+
+abbrev pub objectAnswer : Object → ℕ × List Part
+objectAnswer r = (objectNumber (r .answer), r .parts)

@@ -1,0 +1,53 @@
+// What the modules of this crate do with a slice: one byte of it, a part of it, whether two are equal, and a copy into one.
+ghost use mathlib.Core.Path.{_≡_};
+ghost use Prim.Native.Nat.{_+_, _≤_};
+ghost use lib.ListN.{length, getD, take, drop};
+ghost use Rattle.card.specs.Range.{written, sameBytes};
+
+// Byte i, 0 past the end.
+pub(crate) fn byte(s: &[u8], i: usize) -> u8
+    ensures { λ r. ⌜ r ≡ getD (now (s .entry)) i 0 ⌝ }
+{
+    if i < s.len() { s[i] } else { 0 }
+}
+
+// What follows the first `at` bytes.
+pub(crate) fn rest(s: &[u8], at: usize) -> &[u8]
+    requires { ⌜ at ≤ length (now s) ⌝ }
+    ensures { λ r. ⌜ now r ≡ drop at (now (s .entry)) ⌝ }
+{
+    &s[at..]
+}
+
+// The `len` bytes from place `start` on.
+pub(crate) fn part(s: &[u8], start: usize, len: usize) -> &[u8]
+    requires { ⌜ start + len ≤ length (now s) ⌝ }
+    ensures { λ r. ⌜ now r ≡ take len (drop start (now (s .entry))) ⌝ }
+{
+    let end = start + len;
+    &s[start..end]
+}
+
+// All bytes are equal, and there are as many. Every byte is looked at: there is no early exit.
+pub(crate) fn same(a: &[u8], b: &[u8]) -> bool
+    ensures { λ r. ⌜ r ≡ sameBytes (now (a .entry)) (now (b .entry)) ⌝ }
+{
+    if a.len() != b.len() {
+        return false;
+    }
+    let mut same = true;
+    for i in 0..a.len() {
+        same = same & (a[i] == b[i]);
+    }
+    same
+}
+
+// The n bytes of src from place from on, stored in dst from place at on.
+pub(crate) fn copy_run(dst: &mut [u8], at: usize, src: &[u8], from: usize, n: usize)
+    requires { ⌜ (at + n ≤ length (now dst)) × (from + n ≤ length (now src)) ⌝ }
+    ensures { λ r. ⌜ now (dst .exit) ≡ written (now (dst .entry)) at n (λ j. getD (now (src .entry)) (from + j) 0) ⌝ }
+{
+    for j in 0..n {
+        dst[at + j] = src[from + j];
+    }
+}

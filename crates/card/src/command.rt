@@ -1,0 +1,120 @@
+// Commands and status words (document 01, section Commands): SELECT, GET DATA and GET RESPONSE written to the front of a lent buffer.
+use crate::bytes;
+use crate::object::Kind;
+ghost use mathlib.Core.Path.{_≡_};
+ghost use Prim.Native.Nat.{_+_, _≤_};
+ghost use lib.ListN.{length};
+ghost use Rattle.card.specs.Object.{objectTag};
+ghost use Rattle.card.specs.Command.{stored, commandNumber, commandAnswer, selectOf, getDataOf, getResponseOf, statusOf};
+
+// What a command answers: how many bytes it wrote, or why it wrote none. `commandAnswer` gives document 01's number and the count of each.
+pub enum CommandAnswer {
+    Written(usize),
+    // an AID that is not 5 to 16 bytes
+    WrongAid,
+    // a buffer shorter than the command
+    ShortBuffer,
+}
+
+impl CommandAnswer {
+    // Document 01's number of the answer, 0 where the command is written.
+    pub fn number(self) -> u8
+        ensures { λ r. ⌜ r ≡ commandNumber self ⌝ }
+    {
+        match self {
+            CommandAnswer::Written(_) => 0,
+            CommandAnswer::WrongAid => 3,
+            CommandAnswer::ShortBuffer => 6,
+        }
+    }
+}
+
+// The bytes s, stored in out from place at on.
+fn put(out: &mut [u8], at: usize, s: &[u8])
+    requires { ⌜ at + length (now s) ≤ length (now out) ⌝ }
+    ensures { λ r. ⌜ now (out .exit) ≡ stored (now (out .entry)) at (now (s .entry)) ⌝ }
+{
+    bytes::copy_run(out, at, s, 0, s.len());
+}
+
+// SELECT: 00 A4 04 00, AID length, AID, 00.
+pub fn select(aid: &[u8], out: &mut [u8]) -> CommandAnswer
+    ensures { λ r. ⌜ (commandAnswer r, now (out .exit)) ≡ selectOf (now (aid .entry)) (now (out .entry)) ⌝ }
+{
+    let n = aid.len();
+    if !((5 <= n) & (n <= 16)) {
+        return CommandAnswer::WrongAid;
+    }
+    let total = n + 6;
+    if out.len() < total {
+        return CommandAnswer::ShortBuffer;
+    }
+    let count = [n as u8];
+    put(out, 0, b"\x00\xA4\x04\x00");
+    put(out, 4, &count);
+    put(out, 5, aid);
+    put(out, 5 + n, b"\x00");
+    CommandAnswer::Written(total)
+}
+
+// The tag of an object, three bytes.
+fn object_tag(kind: Kind) -> [u8; 3]
+    ensures { λ r. ⌜ r ≡ objectTag kind ⌝ }
+{
+    match kind {
+        Kind::Signed => [0x5F, 0xC1, 0x02],
+        Kind::Unsigned => [0x5F, 0xC1, 0x04],
+        Kind::Fingers => [0xDF, 0xC1, 0x03],
+    }
+}
+
+// GET DATA: 00 CB 3F FF 05 5C 03, three tag bytes, 00.
+pub fn get_data(kind: Kind, out: &mut [u8]) -> CommandAnswer
+    ensures { λ r. ⌜ (commandAnswer r, now (out .exit)) ≡ getDataOf kind (now (out .entry)) ⌝ }
+{
+    if out.len() < 11 {
+        return CommandAnswer::ShortBuffer;
+    }
+    let tag = object_tag(kind);
+    put(out, 0, b"\x00\xCB\x3F\xFF\x05\x5C\x03");
+    put(out, 7, &tag);
+    put(out, 10, b"\x00");
+    CommandAnswer::Written(11)
+}
+
+// GET RESPONSE: 00 C0 00 00, then the second status byte of the answer just taken.
+pub fn get_response(second: u8, out: &mut [u8]) -> CommandAnswer
+    ensures { λ r. ⌜ (commandAnswer r, now (out .exit)) ≡ getResponseOf second (now (out .entry)) ⌝ }
+{
+    if out.len() < 5 {
+        return CommandAnswer::ShortBuffer;
+    }
+    let last = [second];
+    put(out, 0, b"\x00\xC0\x00\x00");
+    put(out, 4, &last);
+    CommandAnswer::Written(5)
+}
+
+// What a status word says: 90 00, all is sent; 61 and a byte, more is to be asked for; any other.
+pub enum Status {
+    Done,
+    More(u8),
+    Other,
+}
+
+// The status word s; other where s is not two bytes.
+pub fn status_of(s: &[u8]) -> Status
+    ensures { λ r. ⌜ r ≡ statusOf (now (s .entry)) ⌝ }
+{
+    if s.len() != 2 {
+        return Status::Other;
+    }
+    if bytes::same(s, b"\x90\x00") {
+        return Status::Done;
+    }
+    if bytes::same(&s[..1], b"\x61") {
+        Status::More(s[1])
+    } else {
+        Status::Other
+    }
+}

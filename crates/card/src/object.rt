@@ -1,0 +1,206 @@
+// Data objects (document 01, section Objects): one TLV 53, whose value holds one-byte-tag fields, each once, in the order of the object's rows.
+use crate::bytes;
+use crate::tlv;
+use crate::tlv::Header;
+ghost use mathlib.Core.Path.{_≡_};
+ghost use Prim.Native.Nat.{_+_, _≤_, _<_, _^_};
+ghost use lib.ListN.{length, take};
+ghost use Rattle.card.specs.Object.{rowsOf, fieldOf, fieldsFrom, fieldsAnswer, objectNumber, objectAnswer, objectOf, partIn};
+
+// The objects that a reading asks for: 5FC102, 5FC104 and DFC103.
+pub enum Kind {
+    Signed,
+    Unsigned,
+    Fingers,
+}
+
+// A row of an object's layout: the field's tag, the least and the greatest length of its value, and whether it may be absent.
+pub struct Row(pub usize, pub usize, pub usize, pub bool);
+
+// No row of an object: it fills a layout up.
+const NONE: Row = Row(0, 0, 0, false);
+
+// The first n are an object's rows.
+pub struct Layout {
+    pub n: usize,
+    pub rows: [Row; 5],
+}
+
+// Where a field's value lies in the whole object. An absent field has the empty part, 0 and 0.
+pub struct Part {
+    pub start: usize,
+    pub len: usize,
+}
+
+const EMPTY: Part = Part { start: 0, len: 0 };
+
+// A field read at a place: whether it is as its row asks, its part, and the place after it.
+pub struct Field {
+    pub ok: bool,
+    pub part: Part,
+    pub next: usize,
+}
+
+// What parse answers. `objectNumber` gives document 01's cause.
+pub enum ObjectAnswer {
+    Accepted,
+    Malformed,
+}
+
+impl ObjectAnswer {
+    // Document 01's cause, 0 where the object is accepted.
+    pub fn number(self) -> u8
+        ensures { λ r. ⌜ r ≡ objectNumber self ⌝ }
+    {
+        match self {
+            ObjectAnswer::Accepted => 0,
+            ObjectAnswer::Malformed => 20,
+        }
+    }
+}
+
+// The part of each field beside the answer, in the order of the rows, and empty parts past the last row; all are empty where the object is malformed.
+pub struct Object {
+    pub answer: ObjectAnswer,
+    pub parts: [Part; 5],
+}
+
+fn layout_of(kind: Kind) -> Layout
+    ensures is { λ r. ⌜ take (r .n) (r .rows) ≡ rowsOf kind ⌝ }
+    ensures most { λ r. ⌜ r .n ≤ 5 ⌝ }
+    ensures count { λ r. ⌜ length (rowsOf kind) ≡ r .n ⌝ }
+{
+    match kind {
+        Kind::Signed => Layout {
+            n: 5,
+            rows: [
+                Row(0x30, 25, 25, false),
+                Row(0x34, 16, 16, false),
+                Row(0x35, 8, 8, false),
+                Row(0x3E, 1, 2816, false),
+                Row(0xFE, 0, 0, false),
+            ],
+        },
+        Kind::Unsigned => Layout {
+            n: 4,
+            rows: [
+                Row(0x30, 25, 25, false),
+                Row(0x34, 16, 16, true),
+                Row(0x35, 8, 8, false),
+                Row(0xFE, 0, 0, false),
+                NONE,
+            ],
+        },
+        Kind::Fingers => Layout {
+            n: 2,
+            rows: [
+                Row(0xBC, 1, 862, false),
+                Row(0xFE, 0, 0, true),
+                NONE,
+                NONE,
+                NONE,
+            ],
+        },
+    }
+}
+
+// The field of a row at place `at` of the value v, which begins at `base` in the whole.
+fn next_field(v: &[u8], base: usize, row: Row, at: usize) -> Field
+    requires { ⌜ (at ≤ length (now v)) × (base + length (now v) < 2 ^ 64) ⌝ }
+    ensures is { λ r. ⌜ r ≡ fieldOf (now (v .entry)) base row at ⌝ }
+    ensures inside { λ r. ⌜ r .next ≤ length (now (v .entry)) ⌝ }
+{
+    let absent = Field {
+        ok: row.3,
+        part: EMPTY,
+        next: at,
+    };
+    match tlv::header_of(bytes::rest(v, at)) {
+        Header::Whole {
+            tag,
+            nested: _,
+            start,
+            len,
+        } => {
+            if tag != row.0 {
+                return absent;
+            }
+            let a = at + start;
+            Field {
+                ok: (row.1 <= len) & (len <= row.2),
+                part: Part {
+                    start: base + a,
+                    len,
+                },
+                next: a + len,
+            }
+        }
+        Header::Malformed => absent,
+    }
+}
+
+// The fields of an object in its value v, which begins at `base` in the whole: each as its row asks, and nothing after the last.
+fn fields(v: &[u8], base: usize, kind: Kind) -> Object
+    requires { ⌜ base + length (now v) < 2 ^ 64 ⌝ }
+    ensures { λ r. ⌜ objectAnswer r ≡ fieldsAnswer (fieldsFrom (now (v .entry)) base (rowsOf kind) 0) ⌝ }
+{
+    let l = layout_of(kind);
+    let n = l.n;
+    let rows = l.rows;
+    let mut parts = [EMPTY; 5];
+    let mut ok = true;
+    let mut at: usize = 0;
+    for i in 0..n {
+        let f = next_field(v, base, rows[i], at);
+        let p = f.part;
+        parts[i] = p;
+        ok = ok & f.ok;
+        at = f.next;
+    }
+    if ok & (at == v.len()) {
+        Object {
+            answer: ObjectAnswer::Accepted,
+            parts,
+        }
+    } else {
+        Object {
+            answer: ObjectAnswer::Malformed,
+            parts: [EMPTY; 5],
+        }
+    }
+}
+
+// The fields of the object s.
+pub fn parse(kind: Kind, s: &[u8]) -> Object
+    ensures { λ r. ⌜ objectAnswer r ≡ objectOf kind (now (s .entry)) ⌝ }
+{
+    match tlv::only(s, 0x53) {
+        Header::Whole {
+            tag: _,
+            nested: _,
+            start,
+            len,
+        } => fields(bytes::part(s, start, len), start, kind),
+        Header::Malformed => Object {
+            answer: ObjectAnswer::Malformed,
+            parts: [EMPTY; 5],
+        },
+    }
+}
+
+// Of the parts that parse gave, that of the field with a tag; the empty part where no row of the object has the tag.
+pub fn part_of(kind: Kind, parts: [Part; 5], tag: u8) -> Part
+    ensures { λ r. ⌜ r ≡ partIn (rowsOf kind) parts tag ⌝ }
+{
+    let l = layout_of(kind);
+    let n = l.n;
+    let rows = l.rows;
+    let wanted = tag as usize;
+    for i in 0..n {
+        let row = rows[i];
+        if row.0 == wanted {
+            return parts[i];
+        }
+    }
+    EMPTY
+}

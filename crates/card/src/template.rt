@@ -1,0 +1,104 @@
+// The SELECT answer (document 01, section Objects): one TLV 61, whose value is whole TLVs, nested ones too, and directly holds just one 4F.
+use crate::bytes;
+use crate::tlv;
+use crate::tlv::Header;
+ghost use mathlib.Core.Path.{_≡_};
+ghost use Rattle.card.specs.Template.{noted, walked, templateNumber, templateOf};
+
+// What template answers. `templateNumber` gives document 01's cause.
+pub enum TemplateAnswer {
+    Accepted,
+    Malformed,
+}
+
+impl TemplateAnswer {
+    // Document 01's cause, 0 where the template is accepted.
+    pub fn number(self) -> u8
+        ensures { λ r. ⌜ r ≡ templateNumber self ⌝ }
+    {
+        match self {
+            TemplateAnswer::Accepted => 0,
+            TemplateAnswer::Malformed => 19,
+        }
+    }
+}
+
+// The 4Fs met so far, with one TLV more: 0 none, 1 just one, of 1 to 16 bytes, 2 any others.
+fn note(ids: usize, tag: usize, len: usize) -> usize
+    ensures { λ r. ⌜ r ≡ noted ids tag len ⌝ }
+{
+    if tag != 0x4F {
+        return ids;
+    }
+    if (ids == 0) & (1 <= len) & (len <= 16) {
+        1
+    } else {
+        2
+    }
+}
+
+// What a walk finds: whether the bytes are whole TLVs to the depth left, and the 4Fs that they directly hold, by note; 0 where they are not whole.
+pub struct Walked {
+    pub whole: bool,
+    pub ids: usize,
+}
+
+const BROKEN: Walked = Walked {
+    whole: false,
+    ids: 0,
+};
+
+// The TLVs of s, one after another; each nested value is walked in turn, with a level less left.
+fn walk(s: &[u8], depth: usize) -> Walked
+    ensures { λ r. ⌜ r ≡ walked depth 0 (now (s .entry)) ⌝ }
+{
+    let mut ids: usize = 0;
+    let mut at: usize = 0;
+    while at < s.len() {
+        if depth == 0 {
+            return BROKEN;
+        }
+        let Header::Whole {
+            tag,
+            nested,
+            start,
+            len,
+        } = tlv::header_of(bytes::rest(s, at))
+        else {
+            return BROKEN;
+        };
+        let a = at + start;
+        let e = a + len;
+        if nested {
+            let inner = walk(&s[a..e], depth - 1);
+            if !inner.whole {
+                return BROKEN;
+            }
+        }
+        ids = note(ids, tag, len);
+        at = e;
+    }
+    Walked { whole: true, ids }
+}
+
+// Whether s is a template as document 01 asks. 61 is depth 1, so that three levels are left for its value.
+pub fn template(s: &[u8]) -> TemplateAnswer
+    ensures { λ r. ⌜ templateNumber r ≡ templateOf (now (s .entry)) ⌝ }
+{
+    match tlv::only(s, 0x61) {
+        Header::Whole {
+            tag: _,
+            nested: _,
+            start,
+            len,
+        } => {
+            let found = walk(bytes::part(s, start, len), 3);
+            if found.whole & (found.ids == 1) {
+                TemplateAnswer::Accepted
+            } else {
+                TemplateAnswer::Malformed
+            }
+        }
+        Header::Malformed => TemplateAnswer::Malformed,
+    }
+}
