@@ -11,7 +11,9 @@ pub mod EncoderLaws
 pub mod DateLaws
 -- TemplateLaws: the TLVs of a list, and the walk over them
 pub mod TemplateLaws
--- ObjectLaws: fields and data objects
+-- FieldLaws: the fields of an object, and the walk over its rows
+pub mod FieldLaws
+-- ObjectLaws: the laws of a good object
 pub mod ObjectLaws
 -- CommandLaws: commands, and the buffer that they are written to
 pub mod CommandLaws

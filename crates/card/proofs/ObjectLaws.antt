@@ -1,119 +1,262 @@
--- Fields and objects: what each turn of the walk over the rows adds, and the laws of a good object.
+-- The laws of data objects: where the parts lie, what lengths they have, that what stands after an object does not matter, and that a good object is the
+-- encodings of its fields. A crate above cites these.
 -- Assumes nothing.
-use mathlib.Core.Path.{_≡_, refl, sym, ap, _∙_}
-use mathlib.Core.Bool.{Bool, true, cond, _&&_, and-assoc}
-use mathlib.Core.List.{List, [], _∷_, _++_, append-nil}
-use Prim.Native.Nat.{ℕ, suc, _+_, _-_, _≤_, _<_}
-use native.Mathlib.Numerals.{add-one}
+use mathlib.Core.Path.{_≡_, refl, sym, ap, subst, _∙_}
+use mathlib.Core.Bool.{Bool, true, false, cond, _&&_, _||_, and-eq-true-iff, or-true, false≢true}
+use mathlib.Core.List.{List, [], _∷_, _++_}
+use Prim.Native.Nat.{ℕ, zero, suc, _+_, _-_, _≤_, _<_}
+use native.Mathlib.Nat.{add-assoc}
 use native.Mathlib.Omega.{arith}
-use borrow.Author.Tests.{eq-eqb, ne-eqb}
-use lib.Dec.{eqb, leb}
-use lib.ListN.{length, getD, set, take, drop, replicate, length-drop, length-set, take-append-drop}
-use lib.Seq.{take-suc-set, drop-set-lt, drop-cons, getD-take, drop-drop, drop-length, length-take-le, append-snoc}
-use Rattle.card.specs.Tlv.{headerOf}
-use Rattle.card.specs.Object.{part, empty, absent, fieldFrom, fieldOf, fieldsFrom, fieldsAnswer, partIn}
+use borrow.Author.Tests.{ne-eqb, eqb-true, leb-true, ltb-true, ltb-false}
+use lib.Dec.{eqb, leb, ltb}
+use lib.ListN.{length, getD, take, drop, replicate, length-append, length-drop, take-append-drop, drop-of-length-le, List·getD-append, List·getD-eq-default}
+use lib.Seq.{take-append-le, drop-append-le, length-take-le, take-all, take-add, take-take, drop-at, drop-drop, getD-drop}
+use Rattle.card.specs.Tlv.{headerOf, onlyOf, tagBytes, fitsForm, encoded}
+use Rattle.card.specs.Object.{field, part, empty, rowsOf, fieldOf, fieldsFrom, fieldsAnswer, objectFrom, objectOf, partIn, bytesAt, fieldValue, allowed, rowIn, encodings}
+use Rattle.card.specs.declared.tlv.Header.{Header}
 use Rattle.card.specs.declared.tlv.Header.the-variants.{Whole, Malformed}
+use Rattle.card.specs.declared.object.Kind.{Kind}
 use Rattle.card.specs.declared.object.Row.{Row}
 use Rattle.card.specs.declared.object.Part.{Part}
 use Rattle.card.specs.declared.object.Field.{Field}
-use Rattle.card.proofs.TlvLaws.{header-inside}
+use Rattle.card.proofs.TlvLaws.{header-start, only-is}
+use Rattle.card.proofs.EncoderLaws.{written-back}
+use Rattle.card.proofs.FieldLaws.{field-cases, field-end}
 
--- ---- one field
+-- ---- where the parts lie
 
--- a row's field, by what stands at the place
-module _ (v : List ℕ) (base : ℕ) (r : Row) (at : ℕ) where
-  pub field-none : Malformed ≡ headerOf (drop at v) → absent r at ≡ fieldOf v base r at
-  unfolding fieldOf fieldFrom
-  field-none e = rw (← e)
+-- a part ends within n bytes, and so does each of several
+abbrev pub Inside : ℕ → Part → Type 0
+Inside n p = p .start + p .len ≤ n
 
-  module _ {tag start len : ℕ} {nested : Bool} (e : Whole tag nested start len ≡ headerOf (drop at v)) where
-    pub field-other : (tag ≡ r .0 → ⊥) → absent r at ≡ fieldOf v base r at
-    unfolding fieldOf fieldFrom
-    field-other h = rw (← e, ne-eqb _ _ h)
+abbrev pub AllInside : ℕ → List Part → Type 0
+AllInside n [] = Unit
+AllInside n (p ∷ ps) = Inside n p × AllInside n ps
 
-    pub field-found : tag ≡ r .0
-        → record { ok = leb (r .1) len && leb len (r .2); part = part (base + (at + start)) len; next = at + start + len } ≡ fieldOf v base r at
-    unfolding fieldOf fieldFrom
-    field-found h = rw (← e, eq-eqb _ _ h)
+-- a field's part lies within the whole, and the next place within the value
+field-inside : (v : List ℕ) (base : ℕ) (r : Row) (at : ℕ) → at ≤ length v
+    → Inside (base + length v) (fieldOf v base r at .part) × (fieldOf v base r at .next ≤ length v)
+field-inside v base r at h =
+    field-cases v base r at (λ (f : Field). Inside (base + length v) (f .part) × (f .next ≤ length v)) (omega arith, h)
+    (λ tag start len nested e k. let i = field-end v base r at e h in (omega arith, i))
 
-    pub field-end : at ≤ length v → at + start + len ≤ length v
-    field-end h = omega (arith, header-inside (drop at v) e, length-drop at v)
-
--- ---- the walk over the rows
-
--- the fields read so far, and those that follow
-abbrev pub joined : Bool → List Part → Bool × List Part → Bool × List Part
-joined ok ps g = (ok && g .0, ps ++ g .1)
-
--- one row more
-more : (v : List ℕ) (base : ℕ) (r : Row) (rs : List Row) (at : ℕ) (ok : Bool) (ps : List Part)
-    → joined ok ps (fieldsFrom v base (r ∷ rs) at)
-    ≡ joined (ok && fieldOf v base r at .ok) (ps ++ (fieldOf v base r at .part ∷ [])) (fieldsFrom v base rs (fieldOf v base r at .next))
+fields-inside : (v : List ℕ) (base : ℕ) (rs : List Row) (at : ℕ) → at ≤ length v → AllInside (base + length v) (fieldsFrom v base rs at .1)
 unfolding fieldsFrom
-more v base r rs at ok ps = rw (and-assoc, append-snoc)
+fields-inside v base [] at h = tt
+fields-inside v base (r ∷ rs) at h = let i = field-inside v base r at h in (i .0, fields-inside v base rs (fieldOf v base r at .next) (i .1))
 
--- row i of a layout, which is the first n of some rows
-pub row-at : (rows : List Row) (n i : ℕ) (d : Row) {all : List Row} → take n rows ≡ all → length all ≡ n → i < n → drop i (take n rows) ≡ getD rows i d ∷ drop (i + 1) (take n rows)
-row-at rows n i d e m l =
-    rw (add-one, ← getD-take n rows i d l) (drop-cons (take n rows) i d (omega (arith, ap length e, m)))
+inside-append : (n : ℕ) (ps qs : List Part) → AllInside n ps → AllInside n qs → AllInside n (ps ++ qs)
+inside-append n [] qs i j = j
+inside-append n (p ∷ ps) qs i j = (i .0, inside-append n ps qs (i .1) j)
 
--- What the loop over the rows knows when i of them are read: the place reached, the parts stored, and that what is read so far joined with what follows is all.
-pub record Read (v : List ℕ) (base : ℕ) (rows : List Row) (i : ℕ) (parts : List Part) (ok : Bool) (at : ℕ) : Type 0 where
-  pub placed : at ≤ length v
-  pub five : length parts ≡ 5
-  pub unread : drop i parts ≡ replicate (5 - i) empty
-  pub so-far : fieldsFrom v base rows 0 ≡ joined ok (take i parts) (fieldsFrom v base (drop i rows) at)
+inside-empty : (m n : ℕ) → AllInside n (replicate m empty)
+inside-empty zero n = tt
+inside-empty (suc m) n = (omega arith, inside-empty m n)
 
--- no row is read
-pub read-none : (v : List ℕ) (base : ℕ) (rows : List Row) → Read v base rows 0 (replicate 5 empty) true 0
-read-none v base rows = record { placed = omega arith; five = refl; unread = refl; so-far = refl }
+answer-inside : (n : ℕ) (ok : Bool) (ps : List Part) → AllInside n ps → AllInside n (fieldsAnswer (ok, ps) .1)
+unfolding fieldsAnswer
+answer-inside n true ps i = inside-append n ps (replicate (5 - length ps) empty) i (inside-empty (5 - length ps) n)
+answer-inside n false ps i = inside-empty 5 n
 
--- one part less is left
-one-less : {v : List ℕ} {base : ℕ} {rows : List Row} {i : ℕ} {parts : List Part} {ok : Bool} {at : ℕ} → Read v base rows i parts ok at → i < 5
-    → drop (i + 1) parts ≡ replicate (5 - (i + 1)) empty
-one-less {i = i} {parts} p l =
-    let e : 5 - i ≡ suc (5 - (i + 1)) = omega arith in
-    sym (drop-drop 1 i parts) ∙ ap (drop 1) (p .unread ∙ ap (λ (n : ℕ). replicate n empty) e)
+-- the value of the one TLV that a list is ends where the list ends
+value-end : (s : List ℕ) {tag start len : ℕ} {nested : Bool} → Whole tag nested start len ≡ onlyOf 0x53 s → start + length (take len (drop start s)) ≡ length s
+value-end s {start = start} {len} e =
+    let i = only-is 0x53 s e .2 in
+    omega (arith, i, length-take-le len (drop start s) (omega (arith, i, length-drop start s)))
 
--- row i is read, and its part is stored at place i
-pub read-more : {v : List ℕ} {base : ℕ} {rows : List Row} {i : ℕ} {parts : List Part} {ok : Bool} {at : ℕ} (r : Row) (f : Field)
-    → Read v base rows i parts ok at → i < 5 → drop i rows ≡ r ∷ drop (i + 1) rows → f ≡ fieldOf v base r at → f .next ≤ length v
-    → Read v base rows (i + 1) (set parts i (f .part)) (ok && f .ok) (f .next)
-read-more {v} {base} {rows} {i} {parts} {ok} {at} r f p l e q h = record {
-  placed = h;
-  five = length-set parts i (f .part) ∙ p .five;
-  unread = drop-set-lt (i + 1) parts i (f .part) (omega arith) ∙ one-less p l;
-  so-far =
-      p .so-far ∙ ap (λ (rs : List Row). joined ok (take i parts) (fieldsFrom v base rs at)) e
-      ∙ rw (add-one, take-suc-set parts i (f .part) (omega (arith, p .five)), q) (more v base r (drop (suc i) rows) at ok (take i parts));
-}
+-- every part of an object lies within it, of a malformed one too: there they are empty
+pub parts-inside : (k : Kind) (s : List ℕ) → AllInside (length s) (objectOf k s .1)
+unfolding objectOf objectFrom fieldsAnswer
+parts-inside k s = by-header (onlyOf 0x53 s) refl
+  where
+    by-header : (h : Header) → h ≡ onlyOf 0x53 s → AllInside (length s) (objectFrom h k s .1)
+    by-header Malformed e = inside-empty 5 (length s)
+    by-header (Whole tag nested start len) e =
+        let v = take len (drop start s) in
+        let f = fieldsFrom v start (rowsOf k) 0 in
+        subst (λ (n : ℕ). AllInside n (fieldsAnswer f .1)) (value-end s e)
+        (answer-inside (start + length v) (f .0) (f .1) (fields-inside v start (rowsOf k) 0 (omega arith)))
 
--- all rows are read: what was read decides
-pub read-all : {v : List ℕ} {base : ℕ} {rows : List Row} {i : ℕ} {parts : List Part} {ok : Bool} {at : ℕ} → Read v base rows i parts ok at → i ≡ length rows → i ≤ 5
-    → fieldsAnswer (fieldsFrom v base rows 0) ≡ cond (ok && eqb at (length v)) (0, parts) (20, replicate 5 empty)
-unfolding fieldsAnswer fieldsFrom
-read-all {v} {base} {rows} {i} {parts} {ok} {at} p e l =
-    let none : drop i rows ≡ [] = rw e (drop-length rows) in
-    let all-read : fieldsFrom v base rows 0 ≡ (ok && eqb at (length v), take i parts) =
-    p .so-far ∙ rw (none, append-nil) in
-    rw (all-read, length-take-le i parts (omega (arith, p .five)), ← p .unread, take-append-drop)
-
--- ---- a part by its tag
-
--- the first rows have another tag: row i
-pub part-none : (rows : List Row) (parts : List Part) (i tag : ℕ) (r : Row) (p : Part)
-    → drop i rows ≡ r ∷ drop (i + 1) rows → drop i parts ≡ p ∷ drop (i + 1) parts → (r .0 ≡ tag → ⊥)
-    → partIn (drop i rows) (drop i parts) tag ≡ partIn (drop (i + 1) rows) (drop (i + 1) parts) tag
+-- and so does the part of the field with a tag
+part-inside-of : (n : ℕ) (rs : List Row) (ps : List Part) (tag : ℕ) → AllInside n ps → Inside n (partIn rs ps tag)
 unfolding partIn
-part-none rows parts i tag r p e f h = rw (e, f, ne-eqb _ _ h)
+part-inside-of n [] ps tag i = omega arith
+part-inside-of n (r ∷ rs) [] tag i = omega arith
+part-inside-of n (r ∷ rs) (p ∷ ps) tag i = by-tag (eqb (r .0) tag) (part-inside-of n rs ps tag (i .1))
+  where
+    by-tag : (k : Bool) → Inside n (partIn rs ps tag) → Inside n (cond k p (partIn rs ps tag))
+    by-tag true later = i .0
+    by-tag false later = later
 
--- row i has the tag
-pub part-here : (rows : List Row) (parts : List Part) (i tag : ℕ) (r : Row) (p : Part)
-    → drop i rows ≡ r ∷ drop (i + 1) rows → drop i parts ≡ p ∷ drop (i + 1) parts → r .0 ≡ tag → partIn (drop i rows) (drop i parts) tag ≡ p
-unfolding partIn
-part-here rows parts i tag r p e f h = rw (e, f, eq-eqb _ _ h)
+pub part-inside : (k : Kind) (s : List ℕ) (tag : ℕ) → Inside (length s) (partIn (rowsOf k) (objectOf k s .1) tag)
+part-inside k s tag = part-inside-of (length s) (rowsOf k) (objectOf k s .1) tag (parts-inside k s)
 
--- no row is left
-pub part-end : (parts : List Part) (tag : ℕ) → partIn [] parts tag ≡ empty
-unfolding partIn
-part-end parts tag = refl
+-- ---- what stands after an object
+
+-- the bytes of a part that lies within a list do not depend on what stands after the list
+pub bytes-after : (s after : List ℕ) (p : Part) → Inside (length s) p → bytesAt (s ++ after) p ≡ bytesAt s p
+unfolding bytesAt
+bytes-after s after p i =
+    rw (drop-append-le (p .start) s after (omega arith), take-append-le (p .len) (drop (p .start) s) after (omega (arith, length-drop (p .start) s)))
+
+-- so a field's value stays what it is
+pub field-after : (k : Kind) (tag : ℕ) (s after : List ℕ) → bytesAt (s ++ after) (partIn (rowsOf k) (objectOf k s .1) tag) ≡ fieldValue k tag s
+unfolding fieldValue
+field-after k tag s after = bytes-after s after (partIn (rowsOf k) (objectOf k s .1) tag) (part-inside k s tag)
+
+-- ---- the lengths of the fields of a good object
+
+-- a good object: one TLV 53, whose fields are as the rows ask
+pub record Good (k : Kind) (s : List ℕ) : Type 0 where
+  pub nested : Bool
+  pub start : ℕ
+  pub len : ℕ
+  pub whole : Whole 0x53 nested start len ≡ headerOf s
+  pub ends : start + len ≡ length s
+  pub fields : fieldsFrom (take len (drop start s)) start (rowsOf k) 0 .0 ≡ true
+  pub filler : List Part
+  pub parts : objectOf k s .1 ≡ fieldsFrom (take len (drop start s)) start (rowsOf k) 0 .1 ++ filler
+
+answered : (ok : Bool) (ps : List Part) → fieldsAnswer (ok, ps) .0 ≡ 0 → (ok ≡ true) × (fieldsAnswer (ok, ps) .1 ≡ ps ++ replicate (5 - length ps) empty)
+unfolding fieldsAnswer
+answered true ps e = (refl, refl)
+answered false ps e = absurd (omega arith)
+
+-- an object that is accepted is good
+pub good : (k : Kind) (s : List ℕ) → objectOf k s .0 ≡ 0 → Good k s
+unfolding objectOf objectFrom fieldsAnswer
+good k s p = by-header (onlyOf 0x53 s) refl p
+  where
+    by-header : (h : Header) → h ≡ onlyOf 0x53 s → objectFrom h k s .0 ≡ 0 → Good k s
+    by-header Malformed e q = absurd (omega arith)
+    by-header (Whole tag nest at n) e q =
+        let i = only-is 0x53 s e in
+        let f = fieldsFrom (take n (drop at s)) at (rowsOf k) 0 in
+        let a = answered (f .0) (f .1) q in
+        record {
+          nested = nest;
+          start = at;
+          len = n;
+          whole = rw (← i .1) (i .0);
+          ends = i .2;
+          fields = a .0;
+          filler = replicate (5 - length (f .1)) empty;
+          parts = ap (λ (h : Header). objectFrom h k s .1) (sym e) ∙ a .1;
+        }
+
+-- a good object is not empty
+pub object-not-empty : (k : Kind) (s : List ℕ) → objectOf k s .0 ≡ 0 → 0 < length s
+object-not-empty k s p = let g = good k s p in omega (arith, g .ends, header-start s (g .whole))
+
+-- a field that is as its row asks has a length that the row allows
+field-allowed : (v : List ℕ) (base : ℕ) (r : Row) (at : ℕ) → fieldOf v base r at .ok ≡ true → allowed r (fieldOf v base r at .part .len) ≡ true
+field-allowed v base r at =
+    field-cases v base r at (λ (f : Field). f .ok ≡ true → allowed r (f .part .len) ≡ true)
+    (λ (o : r .3 ≡ true). rw o (or-true (leb (r .1) 0 && leb 0 (r .2)))) (λ tag start len nested e k o. rw o)
+
+-- the same of the row with a tag, among the rows from a place on
+fields-allowed : (v : List ℕ) (base : ℕ) (rs : List Row) (at tag : ℕ) (more : List Part) → fieldsFrom v base rs at .0 ≡ true
+    → allowed (rowIn rs tag) (partIn rs (fieldsFrom v base rs at .1 ++ more) tag .len) ≡ true
+unfolding fieldsFrom partIn rowIn
+fields-allowed v base [] at tag more o = refl
+fields-allowed v base (r ∷ rs) at tag more o =
+    let f = fieldOf v base r at in
+    let after = fieldsFrom v base rs (f .next) in
+    let p = and-eq-true-iff (f .ok) (after .0) .0 o in
+    by-tag (eqb (r .0) tag) (field-allowed v base r at (p .0)) (fields-allowed v base rs (f .next) tag more (p .1))
+  where
+    by-tag : (k : Bool) → let f = fieldOf v base r at in let q = partIn rs (fieldsFrom v base rs (f .next) .1 ++ more) tag in
+        allowed r (f .part .len) ≡ true → allowed (rowIn rs tag) (q .len) ≡ true → allowed (cond k r (rowIn rs tag)) (cond k (f .part) q .len) ≡ true
+    by-tag true here later = here
+    by-tag false here later = later
+
+-- the field with a tag in a good object has a length that its row allows
+pub part-allowed : (k : Kind) (s : List ℕ) (tag : ℕ) → objectOf k s .0 ≡ 0 → allowed (rowIn (rowsOf k) tag) (partIn (rowsOf k) (objectOf k s .1) tag .len) ≡ true
+part-allowed k s tag p =
+    let g = good k s p in
+    rw (g .parts) (fields-allowed (take (g .len) (drop (g .start) s)) (g .start) (rowsOf k) 0 tag (g .filler) (g .fields))
+
+left : (x : Bool) → (x || false) ≡ true → x ≡ true
+left true e = refl
+left false e = e
+
+exact : (tag n m : ℕ) → allowed (field tag n n) m ≡ true → m ≡ n
+exact tag n m e =
+    let q = and-eq-true-iff (leb n m) (leb m n) .0 (left (leb n m && leb m n) e) in
+    omega (arith, leb-true n m (q .0), leb-true m n (q .1))
+
+-- so where its row fixes the length and does not let it be absent, it has that length: `length-is Signed s 0x30 25 refl`
+pub length-is : (k : Kind) (s : List ℕ) (tag n : ℕ) → rowIn (rowsOf k) tag ≡ field tag n n → objectOf k s .0 ≡ 0 → partIn (rowsOf k) (objectOf k s .1) tag .len ≡ n
+length-is k s tag n r p = exact tag n (partIn (rowsOf k) (objectOf k s .1) tag .len) (rw r at (part-allowed k s tag p))
+
+-- ---- a good object is the encodings of its fields
+
+-- a part of the first bytes of a list is that part of the list
+front-part : (w : List ℕ) (at n : ℕ) → at ≤ length w → drop at (take (at + n) w) ≡ take n (drop at w)
+front-part w at n h = rw (take-add at n w) (drop-at (take at w) (take n (drop at w)) at (length-take-le at w h))
+
+part-of-front : (w : List ℕ) (len at n : ℕ) → length (take len w) ≡ len → at + n ≤ len → take n (drop at w) ≡ take n (drop at (take len w))
+part-of-front w len at n e h =
+    sym (front-part w at n (omega (arith, length-drop len w, ap length (take-append-drop len w), length-append (take len w) (drop len w))))
+    ∙ ap (drop at) (sym (take-take (at + n) len w h)) ∙ front-part (take len w) at n (omega arith)
+
+-- bytes are bytes in the first part of a list too
+front-bytes : (w : List ℕ) (len : ℕ) → ((i : ℕ) → getD w i 0 < 256) → (i : ℕ) → getD (take len w) i 0 < 256
+front-bytes w len bytes i = by-place (ltb i (length (take len w))) refl
+  where
+    by-place : (k : Bool) → ltb i (length (take len w)) ≡ k → getD (take len w) i 0 < 256
+    by-place true p =
+        let e : getD (take len w) i 0 ≡ getD w i 0 =
+        sym (List·getD-append (take len w) (drop len w) 0 i (ltb-true i (length (take len w)) p)) ∙ ap (λ (l : List ℕ). getD l i 0) (take-append-drop len w) in
+        rw e (bytes i)
+    by-place false p = rw (List·getD-eq-default (take len w) 0 (ltb-false i (length (take len w)) p)) (omega arith)
+
+some-form : (form n : ℕ) → fitsForm form n ≡ true → form ≡ 0 → ⊥
+unfolding fitsForm
+some-form form n p e = false≢true (rw e at p)
+
+-- s holds the value v from place base on
+module _ (s v : List ℕ) (base : ℕ) (more : List Part) (bytes : (i : ℕ) → getD v i 0 < 256)
+    (held : (at n : ℕ) → at + n ≤ length v → bytesAt s (part (base + at) n) ≡ take n (drop at v)) where
+  -- the rows from a place on
+  abbrev Encoded : List Row → List Part → ℕ → Type 0
+  Encoded rs ps at = (forms : List ℕ) × (encodings s forms rs ps ≡ drop at v)
+
+  one-field : (r : Row) (rs : List Row) (at : ℕ) → at ≤ length v
+      → ((next : ℕ) → next ≤ length v → fieldsFrom v base rs next .0 ≡ true → Encoded rs (fieldsFrom v base rs next .1 ++ more) next)
+      → let f = fieldOf v base r at in fieldsFrom v base rs (f .next) .0 ≡ true → Encoded (r ∷ rs) (f .part ∷ (fieldsFrom v base rs (f .next) .1 ++ more)) at
+  unfolding encodings
+  one-field r rs at h rest =
+      field-cases v base r at (λ (f : Field). fieldsFrom v base rs (f .next) .0 ≡ true → Encoded (r ∷ rs) (f .part ∷ (fieldsFrom v base rs (f .next) .1 ++ more)) at)
+      (λ o. let later = rest at h o in (0 ∷ later .0, later .1))
+      (λ tag start len nested e k o.
+      let later = rest (at + start + len) (field-end v base r at e h) o in
+      let w = written-back (drop at v) (λ i. rw getD-drop (bytes (at + i))) e in
+      let form = start - length (tagBytes tag) in
+      let here : bytesAt s (part (base + (at + start)) len) ≡ take len (drop start (drop at v)) =
+      held (at + start) len (field-end v base r at e h) ∙ ap (take len) (sym (drop-drop start at v)) in
+      let after : drop (at + start + len) v ≡ drop (start + len) (drop at v) = rw (drop-drop, add-assoc) in
+      let piece : encoded form (r .0) (bytesAt s (part (base + (at + start)) len)) ≡ take (start + len) (drop at v) = rw (← k, here) (sym (w .3)) in
+      (form ∷ later .0, rw (ne-eqb form 0 (some-form form len (w .1)), piece, later .1, after) (take-append-drop (start + len) (drop at v))))
+
+  fields-encoded : (rs : List Row) (at : ℕ) → at ≤ length v → fieldsFrom v base rs at .0 ≡ true → Encoded rs (fieldsFrom v base rs at .1 ++ more) at
+  unfolding fieldsFrom encodings
+  fields-encoded [] at h o = ([], sym (drop-of-length-le v {i = at} (omega (arith, eqb-true at (length v) o))))
+  fields-encoded (r ∷ rs) at h o =
+      let f = fieldOf v base r at in
+      one-field r rs at h (λ next i p. fields-encoded rs next i p) (and-eq-true-iff (f .ok) (fieldsFrom v base rs (f .next) .0) .0 o .1)
+
+-- the value of a good object is the encodings of its fields, one after another, each in one of the forms of its length; and the object is the encoding of
+-- that value
+pub object-encoded : (k : Kind) (s : List ℕ) → ((i : ℕ) → getD s i 0 < 256) → objectOf k s .0 ≡ 0
+    → (forms : List ℕ) × (form : ℕ) × (s ≡ encoded form 0x53 (encodings s forms (rowsOf k) (objectOf k s .1)))
+unfolding bytesAt
+object-encoded k s bytes p =
+    let g = good k s p in
+    let v = take (g .len) (drop (g .start) s) in
+    let len-is : length v ≡ g .len = length-take-le (g .len) (drop (g .start) s) (omega (arith, g .ends, length-drop (g .start) s)) in
+    let held : (at n : ℕ) → at + n ≤ length v → bytesAt s (part (g .start + at) n) ≡ take n (drop at v) =
+    λ at n h. ap (take n) (sym (drop-drop at (g .start) s)) ∙ part-of-front (drop (g .start) s) (g .len) at n len-is (omega arith) in
+    let f = fields-encoded s v (g .start) (g .filler) (front-bytes (drop (g .start) s) (g .len) (λ i. rw getD-drop (bytes (g .start + i)))) held (rowsOf k) 0 (omega arith) (g .fields) in
+    let w = written-back s bytes (g .whole) in
+    (f .0, g .start - length (tagBytes 0x53), rw (g .parts, f .1) (sym (take-all (g .start + g .len) s (omega (arith, g .ends))) ∙ w .3))

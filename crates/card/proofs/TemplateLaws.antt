@@ -10,12 +10,12 @@ use borrow.Author.Tests.{eq-eqb, ne-eqb}
 use lib.Dec.{eqb, leb}
 use lib.ListN.{length, take, drop, length-drop}
 use lib.Seq.{drop-drop, length-take-le}
-use Rattle.card.specs.Tlv.{headerOf}
-use Rattle.card.specs.Template.{Tlv, tlv, broken, tlvsFrom, tlvsOf, every, wholeTo, lengthsOf, justOne, goodValue, noted, notedAll, walked}
+use Rattle.card.specs.Tlv.{headerOf, onlyFrom, onlyOf}
+use Rattle.card.specs.Template.{Tlv, tlv, broken, tlvsFrom, tlvsOf, every, wholeTo, lengthsOf, justOne, goodValue, goodFrom, templateOf, noted, notedAll, walked}
 use Rattle.card.specs.declared.tlv.Header.{Header}
 use Rattle.card.specs.declared.tlv.Header.the-variants.{Whole, Malformed}
 use Rattle.card.specs.declared.template.Walked.{Walked}
-use Rattle.card.proofs.TlvLaws.{header-inside, header-start}
+use Rattle.card.proofs.TlvLaws.{header-empty, header-inside, header-start}
 
 -- ---- the TLVs of a list
 
@@ -228,3 +228,11 @@ good-is v e = rw e (by-whole (wholeTo 3 v))
     by-whole : (k : Bool) → k && justOne (lengthsOf 0x4F (tlvsOf v)) ≡ k && eqb (cond k (notedAll 0 (tlvsOf v)) 0) 1
     by-whole true = sym (noted-none (tlvsOf v))
     by-whole false = refl
+
+-- ---- a good template
+
+-- a good template is not empty
+pub template-not-empty : (s : List ℕ) → templateOf s ≡ 0 → 0 < length s
+unfolding templateOf goodFrom onlyOf onlyFrom
+template-not-empty [] e = let h : _≡_ {A = ℕ} 19 0 = rw header-empty at e in absurd (omega arith)
+template-not-empty (x ∷ s) e = omega arith

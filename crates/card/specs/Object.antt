@@ -1,12 +1,12 @@
 -- Data objects (document 01, section Objects): "A data object is one TLV with tag 53 and nothing after; its value holds one-byte-tag fields, each once, in
 -- this order". Fields are not opened further.
 -- Assumes nothing.
-use mathlib.Core.Bool.{Bool, true, false, cond, _&&_}
+use mathlib.Core.Bool.{Bool, true, false, cond, _&&_, _||_}
 use mathlib.Core.List.{List, [], _∷_, _++_}
 use Prim.Native.Nat.{ℕ, _+_, _-_}
 use lib.Dec.{eqb, leb}
 use lib.ListN.{length, take, drop, replicate}
-use Rattle.card.specs.Tlv.{headerOf, onlyOf}
+use Rattle.card.specs.Tlv.{headerOf, onlyOf, encoded}
 use Rattle.card.specs.declared.tlv.Header.{Header}
 use Rattle.card.specs.declared.tlv.Header.the-variants.{Whole, Malformed}
 use Rattle.card.specs.declared.object.Kind.{Kind}
@@ -54,13 +54,16 @@ empty = part 0 0
 abbrev pub absent : Row → ℕ → Field
 absent r at = record { ok = r .3; part = empty; next = at }
 
+-- The row's field is the TLV at a place, its value from `start` on.
+abbrev pub found : ℕ → Row → ℕ → ℕ → ℕ → Field
+found base r at start len =
+    record { ok = leb (r .1) len && leb len (r .2); part = part (base + (at + start)) len; next = at + start + len }
+
 -- The row's field at place `at` of a value that begins at place `base` of the whole, by the header of the TLV that stands there.
 unfoldable pub fieldFrom : Header → ℕ → Row → ℕ → Field
 fieldFrom Malformed base r at = absent r at
 fieldFrom (Whole tag nested start len) base r at =
-    cond (eqb tag (r .0))
-    (record { ok = leb (r .1) len && leb len (r .2); part = part (base + (at + start)) len; next = at + start + len })
-    (absent r at)
+    cond (eqb tag (r .0)) (found base r at start len) (absent r at)
 
 unfoldable pub fieldOf : List ℕ → ℕ → Row → ℕ → Field
 fieldOf v base r at = fieldFrom (headerOf (drop at v)) base r at
@@ -98,6 +101,25 @@ bytesAt s p = take (p .len) (drop (p .start) s)
 
 unfoldable pub fieldValue : Kind → ℕ → List ℕ → List ℕ
 fieldValue k tag s = bytesAt s (partIn (rowsOf k) (objectOf k s .1) tag)
+
+-- ---- what laws say of an object
+
+-- A length that a row allows: of its field, or none where the field may be absent.
+abbrev pub allowed : Row → ℕ → Bool
+allowed r n = (leb (r .1) n && leb n (r .2)) || (r .3 && eqb n 0)
+
+-- The row with a tag; where there is none, one whose field is absent.
+unfoldable pub rowIn : List Row → ℕ → Row
+rowIn [] tag = optional tag 0 0
+rowIn (r ∷ rs) tag = cond (eqb (r .0) tag) r (rowIn rs tag)
+
+-- The encodings of the rows' fields, one after another: each by the form of its length, and form 0 for a field that is left out.
+unfoldable pub encodings : List ℕ → List ℕ → List Row → List Part → List ℕ
+encodings s [] rs ps = []
+encodings s (form ∷ forms) [] ps = []
+encodings s (form ∷ forms) (r ∷ rs) [] = []
+encodings s (form ∷ forms) (r ∷ rs) (p ∷ ps) =
+    cond (eqb form 0) [] (encoded form (r .0) (bytesAt s p)) ++ encodings s forms rs ps
 
 -- ---- the answer of the code: document 01's cause of each case, and the parts beside it
 

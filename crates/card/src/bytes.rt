@@ -29,7 +29,7 @@ pub(crate) fn part(s: &[u8], start: usize, len: usize) -> &[u8]
 }
 
 // All bytes are equal, and there are as many. Every byte is looked at: there is no early exit.
-pub(crate) fn same(a: &[u8], b: &[u8]) -> bool
+pub fn same(a: &[u8], b: &[u8]) -> bool
     ensures { λ r. ⌜ r ≡ sameBytes (now (a .entry)) (now (b .entry)) ⌝ }
 {
     if a.len() != b.len() {

@@ -8,6 +8,18 @@ pub enum Date {
     Unreal,
 }
 
+impl Date {
+    // Document 01's cause, 0 where the date is real.
+    pub fn number(self) -> u8
+        ensures { λ r. ⌜ r ≡ dateAnswer self .0 ⌝ }
+    {
+        match self {
+            Date::Real(_) => 0,
+            Date::Unreal => 22,
+        }
+    }
+}
+
 fn leap_year(y: u32) -> bool
     ensures { λ r. ⌜ r ≡ leapYear y ⌝ }
 {

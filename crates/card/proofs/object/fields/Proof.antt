@@ -6,7 +6,7 @@ use native.Mathlib.Omega.{arith}
 use lib.Dec.{eqb}
 use lib.ListN.{length, getD, take, replicate}
 use Rattle.card.specs.Object.{field, empty, rowsOf, fieldOf, fieldsFrom, fieldsAnswer}
-use Rattle.card.proofs.ObjectLaws.{row-at, Read, read-none, read-more, read-all}
+use Rattle.card.proofs.FieldLaws.{row-at, Read, read-none, read-more, read-all}
 use Rattle.card.proofs.object.fields.Statement.{statement}
 use Rattle.card.proofs.object.fields.Tie as tie
 

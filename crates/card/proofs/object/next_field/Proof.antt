@@ -7,7 +7,7 @@ use lib.ListN.{length, drop}
 use Rattle.card.specs.Tlv.{headerOf}
 use Rattle.card.specs.declared.tlv.Header.the-variants.{Whole}
 use Rattle.card.proofs.TlvLaws.{known}
-use Rattle.card.proofs.ObjectLaws.{field-none, field-other, field-found, field-end}
+use Rattle.card.proofs.FieldLaws.{field-none, field-other, field-found, field-end}
 use Rattle.card.proofs.object.next_field.Statement.{statement}
 use Rattle.card.proofs.object.next_field.Tie as tie
 

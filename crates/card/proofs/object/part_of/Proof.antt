@@ -7,7 +7,7 @@ use native.Mathlib.Omega.{arith}
 use lib.ListN.{length, getD, take, drop, drop-of-length-le}
 use lib.Seq.{drop-cons}
 use Rattle.card.specs.Object.{field, empty, partIn}
-use Rattle.card.proofs.ObjectLaws.{row-at, part-none, part-here, part-end}
+use Rattle.card.proofs.FieldLaws.{row-at, part-none, part-here, part-end}
 use Rattle.card.proofs.object.part_of.Statement.{statement}
 use Rattle.card.proofs.object.part_of.Tie as tie
 

@@ -1,8 +1,8 @@
--- `vectors::bit_digit` meets its contract. Assumes nothing.
+-- `vectors::report::fascn::bit_digit` meets its contract. Assumes nothing.
 use borrow.Author.Needs.{needs}
 use Rattle.card.specs.Fascn.{bitAt}
-use Rattle.vectors.proofs.bit_digit.Statement.{statement}
-use Rattle.vectors.proofs.bit_digit.Tie as tie
+use Rattle.vectors.proofs.report.fascn.bit_digit.Statement.{statement}
+use Rattle.vectors.proofs.report.fascn.bit_digit.Tie as tie
 
 pub bit-digit-spec : {M : Type 1} → statement M
 unfolding bitAt

@@ -1,8 +1,8 @@
--- `vectors::codes` is safe and ends. Assumes nothing.
+-- `vectors::report::fascn::codes` is safe and ends. Assumes nothing.
 use Prim.Native.Nat.{_-_, _≤_}
 use borrow.Author.Needs.{needs}
-use Rattle.vectors.proofs.codes.Statement.{statement}
-use Rattle.vectors.proofs.codes.Tie as tie
+use Rattle.vectors.proofs.report.fascn.codes.Statement.{statement}
+use Rattle.vectors.proofs.report.fascn.codes.Tie as tie
 
 pub codes-spec : {M : Type 1} → statement M
 codes-spec =

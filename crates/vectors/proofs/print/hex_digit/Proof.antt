@@ -1,8 +1,8 @@
--- `vectors::hex_digit` meets its contract: the test picks the case. Assumes nothing.
+-- `vectors::print::hex_digit` meets its contract: the test picks the case. Assumes nothing.
 use borrow.Author.Needs.{needs}
 use borrow.Author.Tests.{lt-ltb, le-ltb}
-use Rattle.vectors.proofs.hex_digit.Statement.{statement}
-use Rattle.vectors.proofs.hex_digit.Tie as tie
+use Rattle.vectors.proofs.print.hex_digit.Statement.{statement}
+use Rattle.vectors.proofs.print.hex_digit.Tie as tie
 
 pub hex-digit-spec : {M : Type 1} → statement M
 hex-digit-spec =

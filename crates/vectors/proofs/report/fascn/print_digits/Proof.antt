@@ -1,8 +1,8 @@
--- `vectors::print_digits` is safe and ends. Assumes nothing.
+-- `vectors::report::fascn::print_digits` is safe and ends. Assumes nothing.
 use Prim.Native.Nat.{_-_, _≤_}
 use borrow.Author.Needs.{needs}
-use Rattle.vectors.proofs.print_digits.Statement.{statement}
-use Rattle.vectors.proofs.print_digits.Tie as tie
+use Rattle.vectors.proofs.report.fascn.print_digits.Statement.{statement}
+use Rattle.vectors.proofs.report.fascn.print_digits.Tie as tie
 
 pub print-digits-spec : {M : Type 1} → statement M
 print-digits-spec =

@@ -1,0 +1,3 @@
+-- What the contracts of this crate mean.
+-- Line: the parts of a line of the input
+pub mod Line
