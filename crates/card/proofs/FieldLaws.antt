@@ -11,7 +11,7 @@ use lib.Dec.{eqb}
 use lib.ListN.{length, getD, set, take, drop, replicate, length-drop, length-set, take-append-drop}
 use lib.Seq.{take-suc-set, drop-set-lt, drop-cons, getD-take, drop-drop, drop-length, length-take-le, append-snoc}
 use Rattle.card.specs.Tlv.{headerOf}
-use Rattle.card.specs.Object.{empty, absent, found, fieldFrom, fieldOf, fieldsFrom, fieldsAnswer, partIn}
+use Rattle.card.specs.Object.{mostFields, empty, absent, found, fieldFrom, fieldOf, fieldsFrom, fieldsAnswer, partIn}
 use Rattle.card.specs.declared.tlv.Header.{Header}
 use Rattle.card.specs.declared.tlv.Header.the-variants.{Whole, Malformed}
 use Rattle.card.specs.declared.object.Row.{Row}
@@ -73,43 +73,43 @@ row-at rows n i d e m l =
 -- What the loop over the rows knows when i of them are read: the place reached, the parts stored, and that what is read so far joined with what follows is all.
 pub record Read (v : List ℕ) (base : ℕ) (rows : List Row) (i : ℕ) (parts : List Part) (ok : Bool) (at : ℕ) : Type 0 where
   pub placed : at ≤ length v
-  pub five : length parts ≡ 5
-  pub unread : drop i parts ≡ replicate (5 - i) empty
+  pub full : length parts ≡ mostFields
+  pub unread : drop i parts ≡ replicate (mostFields - i) empty
   pub so-far : fieldsFrom v base rows 0 ≡ joined ok (take i parts) (fieldsFrom v base (drop i rows) at)
 
 -- no row is read
-pub read-none : (v : List ℕ) (base : ℕ) (rows : List Row) → Read v base rows 0 (replicate 5 empty) true 0
-read-none v base rows = record { placed = omega arith; five = refl; unread = refl; so-far = refl }
+pub read-none : (v : List ℕ) (base : ℕ) (rows : List Row) → Read v base rows 0 (replicate mostFields empty) true 0
+read-none v base rows = record { placed = omega arith; full = refl; unread = refl; so-far = refl }
 
 -- one part less is left
-one-less : {v : List ℕ} {base : ℕ} {rows : List Row} {i : ℕ} {parts : List Part} {ok : Bool} {at : ℕ} → Read v base rows i parts ok at → i < 5
-    → drop (i + 1) parts ≡ replicate (5 - (i + 1)) empty
+one-less : {v : List ℕ} {base : ℕ} {rows : List Row} {i : ℕ} {parts : List Part} {ok : Bool} {at : ℕ} → Read v base rows i parts ok at → i < mostFields
+    → drop (i + 1) parts ≡ replicate (mostFields - (i + 1)) empty
 one-less {i = i} {parts} p l =
-    let e : 5 - i ≡ suc (5 - (i + 1)) = omega arith in
+    let e : mostFields - i ≡ suc (mostFields - (i + 1)) = omega arith in
     sym (drop-drop 1 i parts) ∙ ap (drop 1) (p .unread ∙ ap (λ (n : ℕ). replicate n empty) e)
 
 -- row i is read, and its part is stored at place i
 pub read-more : {v : List ℕ} {base : ℕ} {rows : List Row} {i : ℕ} {parts : List Part} {ok : Bool} {at : ℕ} (r : Row) (f : Field)
-    → Read v base rows i parts ok at → i < 5 → drop i rows ≡ r ∷ drop (i + 1) rows → f ≡ fieldOf v base r at → f .next ≤ length v
+    → Read v base rows i parts ok at → i < mostFields → drop i rows ≡ r ∷ drop (i + 1) rows → f ≡ fieldOf v base r at → f .next ≤ length v
     → Read v base rows (i + 1) (set parts i (f .part)) (ok && f .ok) (f .next)
 read-more {v} {base} {rows} {i} {parts} {ok} {at} r f p l e q h = record {
   placed = h;
-  five = length-set parts i (f .part) ∙ p .five;
+  full = length-set parts i (f .part) ∙ p .full;
   unread = drop-set-lt (i + 1) parts i (f .part) (omega arith) ∙ one-less p l;
   so-far =
       p .so-far ∙ ap (λ (rs : List Row). joined ok (take i parts) (fieldsFrom v base rs at)) e
-      ∙ rw (add-one, take-suc-set parts i (f .part) (omega (arith, p .five)), q) (more v base r (drop (suc i) rows) at ok (take i parts));
+      ∙ rw (add-one, take-suc-set parts i (f .part) (omega (arith, p .full)), q) (more v base r (drop (suc i) rows) at ok (take i parts));
 }
 
 -- all rows are read: what was read decides
-pub read-all : {v : List ℕ} {base : ℕ} {rows : List Row} {i : ℕ} {parts : List Part} {ok : Bool} {at : ℕ} → Read v base rows i parts ok at → i ≡ length rows → i ≤ 5
-    → fieldsAnswer (fieldsFrom v base rows 0) ≡ cond (ok && eqb at (length v)) (0, parts) (20, replicate 5 empty)
+pub read-all : {v : List ℕ} {base : ℕ} {rows : List Row} {i : ℕ} {parts : List Part} {ok : Bool} {at : ℕ} → Read v base rows i parts ok at → i ≡ length rows → i ≤ mostFields
+    → fieldsAnswer (fieldsFrom v base rows 0) ≡ cond (ok && eqb at (length v)) (0, parts) (20, replicate mostFields empty)
 unfolding fieldsAnswer fieldsFrom
 read-all {v} {base} {rows} {i} {parts} {ok} {at} p e l =
     let none : drop i rows ≡ [] = rw e (drop-length rows) in
     let all-read : fieldsFrom v base rows 0 ≡ (ok && eqb at (length v), take i parts) =
     p .so-far ∙ rw (none, append-nil) in
-    rw (all-read, length-take-le i parts (omega (arith, p .five)), ← p .unread, take-append-drop)
+    rw (all-read, length-take-le i parts (omega (arith, p .full)), ← p .unread, take-append-drop)
 
 -- ---- a part by its tag
 

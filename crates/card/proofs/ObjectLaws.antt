@@ -12,7 +12,7 @@ use lib.Dec.{eqb, leb, ltb}
 use lib.ListN.{length, getD, take, drop, replicate, length-append, length-drop, take-append-drop, drop-of-length-le, List·getD-append, List·getD-eq-default}
 use lib.Seq.{take-append-le, drop-append-le, length-take-le, take-all, take-add, take-take, drop-at, drop-drop, getD-drop}
 use Rattle.card.specs.Tlv.{headerOf, onlyOf, tagBytes, fitsForm, encoded}
-use Rattle.card.specs.Object.{field, part, empty, rowsOf, fieldOf, fieldsFrom, fieldsAnswer, objectFrom, objectOf, partIn, bytesAt, fieldValue, allowed, rowIn, encodings}
+use Rattle.card.specs.Object.{mostFields, field, part, empty, rowsOf, fieldOf, fieldsFrom, fieldsAnswer, objectFrom, objectOf, partIn, bytesAt, fieldValue, allowed, rowIn, encodings}
 use Rattle.card.specs.declared.tlv.Header.{Header}
 use Rattle.card.specs.declared.tlv.Header.the-variants.{Whole, Malformed}
 use Rattle.card.specs.declared.object.Kind.{Kind}
@@ -55,8 +55,8 @@ inside-empty (suc m) n = (omega arith, inside-empty m n)
 
 answer-inside : (n : ℕ) (ok : Bool) (ps : List Part) → AllInside n ps → AllInside n (fieldsAnswer (ok, ps) .1)
 unfolding fieldsAnswer
-answer-inside n true ps i = inside-append n ps (replicate (5 - length ps) empty) i (inside-empty (5 - length ps) n)
-answer-inside n false ps i = inside-empty 5 n
+answer-inside n true ps i = inside-append n ps (replicate (mostFields - length ps) empty) i (inside-empty (mostFields - length ps) n)
+answer-inside n false ps i = inside-empty mostFields n
 
 -- the value of the one TLV that a list is ends where the list ends
 value-end : (s : List ℕ) {tag start len : ℕ} {nested : Bool} → Whole tag nested start len ≡ onlyOf 0x53 s → start + length (take len (drop start s)) ≡ length s
@@ -70,7 +70,7 @@ unfolding objectOf objectFrom fieldsAnswer
 parts-inside k s = by-header (onlyOf 0x53 s) refl
   where
     by-header : (h : Header) → h ≡ onlyOf 0x53 s → AllInside (length s) (objectFrom h k s .1)
-    by-header Malformed e = inside-empty 5 (length s)
+    by-header Malformed e = inside-empty mostFields (length s)
     by-header (Whole tag nested start len) e =
         let v = take len (drop start s) in
         let f = fieldsFrom v start (rowsOf k) 0 in
@@ -117,7 +117,7 @@ pub record Good (k : Kind) (s : List ℕ) : Type 0 where
   pub filler : List Part
   pub parts : objectOf k s .1 ≡ fieldsFrom (take len (drop start s)) start (rowsOf k) 0 .1 ++ filler
 
-answered : (ok : Bool) (ps : List Part) → fieldsAnswer (ok, ps) .0 ≡ 0 → (ok ≡ true) × (fieldsAnswer (ok, ps) .1 ≡ ps ++ replicate (5 - length ps) empty)
+answered : (ok : Bool) (ps : List Part) → fieldsAnswer (ok, ps) .0 ≡ 0 → (ok ≡ true) × (fieldsAnswer (ok, ps) .1 ≡ ps ++ replicate (mostFields - length ps) empty)
 unfolding fieldsAnswer
 answered true ps e = (refl, refl)
 answered false ps e = absurd (omega arith)
@@ -140,7 +140,7 @@ good k s p = by-header (onlyOf 0x53 s) refl p
           whole = rw (← i .1) (i .0);
           ends = i .2;
           fields = a .0;
-          filler = replicate (5 - length (f .1)) empty;
+          filler = replicate (mostFields - length (f .1)) empty;
           parts = ap (λ (h : Header). objectFrom h k s .1) (sym e) ∙ a .1;
         }
 

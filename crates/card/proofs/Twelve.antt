@@ -7,10 +7,9 @@ use Prim.Native.Nat.{ℕ}
 use lib.ListN.{replicate}
 use Rattle.card.specs.Range.{listOf, run, all, xorOf}
 use Rattle.card.specs.Date.{daysIn, realDate}
-use Rattle.card.specs.Object.{rowsOf, fieldFrom, fieldOf, fieldsFrom, fieldsAnswer, objectFrom, objectOf}
+use Rattle.card.specs.Object.{rowsOf, fieldFrom, fieldOf, fieldsFrom, fieldsAnswer, objectFrom, objectOf, partIn}
 use Rattle.card.specs.Tlv.{tagSize, tagNumber, lengthSize, lengthOf, headerOf, onlyFrom, onlyOf}
 use Rattle.card.specs.declared.object.Kind.the-variants.{Unsigned}
-use Rattle.card.specs.declared.object.Part.{Part}
 use Rattle.card.specs.Fascn.{bitAt, valueAt, oddAt, valuesIn, digitsFrom, marksFrom, decimalAt, checkOf, unpackRefusal, unpackOf}
 
 -- The sample FASC-N without its last byte, and its digits.
@@ -36,13 +35,12 @@ fields : List ℕ
 fields =
     (0x30 ∷ 0x19 ∷ []) ++ sample ++ (0xe2 ∷ 0x35 ∷ 0x08 ∷ 0x32 ∷ 0x30 ∷ 0x31 ∷ 0x31 ∷ 0x30 ∷ 0x34 ∷ 0x31 ∷ 0x30 ∷ 0xfe ∷ 0x00 ∷ [])
 
--- What the object reader answers of an unsigned object, as a list: the cause, then start and length of each of the five parts.
-places : List Part → List ℕ
-places [] = []
-places (p ∷ ps) = p .start ∷ p .len ∷ places ps
+-- What the object reader answers of an unsigned object, as a list: the cause, then start and length of the fields 30, 34 and 35.
+place : List ℕ → ℕ → List ℕ
+place s tag = let p = partIn (rowsOf Unsigned) (objectOf Unsigned s .1) tag in p .start ∷ p .len ∷ []
 
 object : List ℕ → List ℕ
-object s = objectOf Unsigned s .0 ∷ places (objectOf Unsigned s .1)
+object s = (objectOf Unsigned s .0 ∷ []) ++ place s 0x30 ++ place s 0x34 ++ place s 0x35
 
 -- What the definitions give, beside what the paper says: a, its check value, b, c; d, e, f, g; h, with 53 27 and with 53 81 27, where all starts are one more; i.
 pub table : List (List ℕ × List ℕ)
@@ -56,11 +54,11 @@ table =
     ∷ (real 20230229, 0 ∷ [])
     ∷ (real 21000229, 0 ∷ [])
     ∷ (real 20000229, 1 ∷ [])
-    ∷ (object (0x53 ∷ 0x27 ∷ fields), 0 ∷ 4 ∷ 25 ∷ 0 ∷ 0 ∷ 31 ∷ 8 ∷ 41 ∷ 0 ∷ 0 ∷ 0 ∷ [])
-    ∷ (object (0x53 ∷ 0x81 ∷ 0x27 ∷ fields), 0 ∷ 5 ∷ 25 ∷ 0 ∷ 0 ∷ 32 ∷ 8 ∷ 42 ∷ 0 ∷ 0 ∷ 0 ∷ [])
-    ∷ (object (0x53 ∷ 0x80 ∷ fields), 20 ∷ replicate 10 0)
+    ∷ (object (0x53 ∷ 0x27 ∷ fields), 0 ∷ 4 ∷ 25 ∷ 0 ∷ 0 ∷ 31 ∷ 8 ∷ [])
+    ∷ (object (0x53 ∷ 0x81 ∷ 0x27 ∷ fields), 0 ∷ 5 ∷ 25 ∷ 0 ∷ 0 ∷ 32 ∷ 8 ∷ [])
+    ∷ (object (0x53 ∷ 0x80 ∷ fields), 20 ∷ replicate 6 0)
     ∷ []
 
 pub twelve : map (λ row. row .0) table ≡ map (λ row. row .1) table
-unfolding table answer real object places realDate daysIn objectOf objectFrom fieldsAnswer fieldsFrom fieldOf fieldFrom rowsOf onlyOf onlyFrom headerOf tagSize tagNumber lengthSize lengthOf unpackOf unpackRefusal bitAt valueAt oddAt valuesIn digitsFrom marksFrom decimalAt checkOf all listOf run xorOf
+unfolding table answer real object place partIn realDate daysIn objectOf objectFrom fieldsAnswer fieldsFrom fieldOf fieldFrom rowsOf onlyOf onlyFrom headerOf tagSize tagNumber lengthSize lengthOf unpackOf unpackRefusal bitAt valueAt oddAt valuesIn digitsFrom marksFrom decimalAt checkOf all listOf run xorOf
 twelve = refl

@@ -78,12 +78,16 @@ fieldsFrom v base (r ∷ rs) at =
 
 -- ---- the object
 
--- Cause 0 and the parts, with empty ones up to 5; or cause 20 and five empty parts.
+-- An answer has as many parts as an object has fields at most; those past the last field are empty.
+abbrev pub mostFields : ℕ
+mostFields = 5
+
+-- Cause 0 and the parts; or cause 20, and all parts empty.
 unfoldable pub fieldsAnswer : Bool × List Part → ℕ × List Part
-fieldsAnswer f = cond (f .0) (0, f .1 ++ replicate (5 - length (f .1)) empty) (20, replicate 5 empty)
+fieldsAnswer f = cond (f .0) (0, f .1 ++ replicate (mostFields - length (f .1)) empty) (20, replicate mostFields empty)
 
 unfoldable pub objectFrom : Header → Kind → List ℕ → ℕ × List Part
-objectFrom Malformed k s = (20, replicate 5 empty)
+objectFrom Malformed k s = (20, replicate mostFields empty)
 objectFrom (Whole tag nested start len) k s = fieldsAnswer (fieldsFrom (take len (drop start s)) start (rowsOf k) 0)
 
 unfoldable pub objectOf : Kind → List ℕ → ℕ × List Part

@@ -4,7 +4,7 @@ use mathlib.Core.Bool.{Bool, cond, _&&_, _||_}
 use mathlib.Core.List.{List, [], _∷_, _++_}
 use Prim.Native.Nat.{ℕ, _+_, _*_, _/_, _%_}
 use lib.Dec.{eqb, ltb}
-use lib.ListN.{length, getD, take, drop}
+use lib.ListN.{length, getD}
 use Rattle.card.specs.declared.tlv.Header.{Header}
 use Rattle.card.specs.declared.tlv.Header.the-variants.{Whole, Malformed}
 
@@ -45,11 +45,6 @@ headerOf s =
     let l = lengthSize (at t) in
     let n = lengthOf (at t) (at (t + 1)) (at (t + 2)) in
     cond (eqb t 0 || eqb l 0 || ltb (length s) (t + l + n)) Malformed (Whole (tagNumber (at 0) (at 1) (at 2)) (nestedBit (at 0)) (t + l) n)
-
--- The value of a TLV, its header read off the front of s.
-unfoldable pub valueOf : Header → List ℕ → List ℕ
-valueOf Malformed s = []
-valueOf (Whole tag nested start len) s = take len (drop start s)
 
 -- "one TLV with tag .. and nothing after it": its header, or malformed.
 unfoldable pub onlyFrom : Header → ℕ → List ℕ → Header

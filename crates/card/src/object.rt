@@ -5,7 +5,7 @@ use crate::tlv::Header;
 ghost use mathlib.Core.Path.{_≡_};
 ghost use Prim.Native.Nat.{_+_, _≤_, _<_, _^_};
 ghost use lib.ListN.{length, take};
-ghost use Rattle.card.specs.Object.{rowsOf, fieldOf, fieldsFrom, fieldsAnswer, objectNumber, objectAnswer, objectOf, partIn};
+ghost use Rattle.card.specs.Object.{mostFields, rowsOf, fieldOf, fieldsFrom, fieldsAnswer, objectNumber, objectAnswer, objectOf, partIn};
 
 // The objects that a reading asks for: 5FC102, 5FC104 and DFC103.
 pub enum Kind {
@@ -17,13 +17,16 @@ pub enum Kind {
 // A row of an object's layout: the field's tag, the least and the greatest length of its value, and whether it may be absent.
 pub struct Row(pub usize, pub usize, pub usize, pub bool);
 
+// The most fields that an object has; `mostFields` in the definitions.
+pub const FIELDS: usize = 5;
+
 // No row of an object: it fills a layout up.
 const NONE: Row = Row(0, 0, 0, false);
 
 // The first n are an object's rows.
 pub struct Layout {
     pub n: usize,
-    pub rows: [Row; 5],
+    pub rows: [Row; FIELDS],
 }
 
 // Where a field's value lies in the whole object. An absent field has the empty part, 0 and 0.
@@ -62,12 +65,12 @@ impl ObjectAnswer {
 // The part of each field beside the answer, in the order of the rows, and empty parts past the last row; all are empty where the object is malformed.
 pub struct Object {
     pub answer: ObjectAnswer,
-    pub parts: [Part; 5],
+    pub parts: [Part; FIELDS],
 }
 
 fn layout_of(kind: Kind) -> Layout
     ensures is { λ r. ⌜ take (r .n) (r .rows) ≡ rowsOf kind ⌝ }
-    ensures most { λ r. ⌜ r .n ≤ 5 ⌝ }
+    ensures most { λ r. ⌜ r .n ≤ mostFields ⌝ }
     ensures count { λ r. ⌜ length (rowsOf kind) ≡ r .n ⌝ }
 {
     match kind {
@@ -147,7 +150,7 @@ fn fields(v: &[u8], base: usize, kind: Kind) -> Object
     let l = layout_of(kind);
     let n = l.n;
     let rows = l.rows;
-    let mut parts = [EMPTY; 5];
+    let mut parts = [EMPTY; FIELDS];
     let mut ok = true;
     let mut at: usize = 0;
     for i in 0..n {
@@ -165,7 +168,7 @@ fn fields(v: &[u8], base: usize, kind: Kind) -> Object
     } else {
         Object {
             answer: ObjectAnswer::Malformed,
-            parts: [EMPTY; 5],
+            parts: [EMPTY; FIELDS],
         }
     }
 }
@@ -183,13 +186,13 @@ pub fn parse(kind: Kind, s: &[u8]) -> Object
         } => fields(bytes::part(s, start, len), start, kind),
         Header::Malformed => Object {
             answer: ObjectAnswer::Malformed,
-            parts: [EMPTY; 5],
+            parts: [EMPTY; FIELDS],
         },
     }
 }
 
 // Of the parts that parse gave, that of the field with a tag; the empty part where no row of the object has the tag.
-pub fn part_of(kind: Kind, parts: [Part; 5], tag: u8) -> Part
+pub fn part_of(kind: Kind, parts: [Part; FIELDS], tag: u8) -> Part
     ensures { λ r. ⌜ r ≡ partIn (rowsOf kind) parts tag ⌝ }
 {
     let l = layout_of(kind);

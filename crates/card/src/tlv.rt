@@ -15,6 +15,9 @@ pub enum Header {
     Malformed,
 }
 
+// A length's first byte below this is the length itself; from this on it says how many bytes follow.
+const LONG: u8 = 0x80;
+
 // How many bytes the tag takes, by its first three; 0 where it is malformed.
 fn tag_size(a: u8, b: u8, c: u8) -> usize
     ensures is { λ r. ⌜ r ≡ tagSize a b c ⌝ }
@@ -48,7 +51,7 @@ fn length_size(a: u8) -> usize
     ensures is { λ r. ⌜ r ≡ lengthSize a ⌝ }
     ensures small { λ r. ⌜ r < 4 ⌝ }
 {
-    if a < 0x80 {
+    if a < LONG {
         1
     } else if a == 0x81 {
         2
@@ -63,7 +66,7 @@ fn length_of(a: u8, b: u8, c: u8) -> usize
     ensures is { λ r. ⌜ r ≡ lengthOf a b c ⌝ }
     ensures small { λ r. ⌜ r < 65536 ⌝ }
 {
-    if a < 0x80 {
+    if a < LONG {
         a as usize
     } else if a == 0x81 {
         b as usize

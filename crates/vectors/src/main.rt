@@ -14,7 +14,7 @@ fn call(name: &[u8], text: &[u8]) {
     }
     let mut b = io::buffer();
     let n = line::hex_bytes(text, &mut b);
-    report::answer(name, &b[..n]);
+    report::fascn::answer(name, &b[..n]);
 }
 
 // A line, and what its call says.

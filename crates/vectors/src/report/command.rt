@@ -64,36 +64,36 @@ fn status(b: &[u8]) {
     }
 }
 
-// Whether the name is that of a GET DATA, and what it writes then.
-fn answered_get(name: &[u8], b: &[u8]) -> bool {
+// The same for a name that is none of answer's.
+fn answer_get_data(name: &[u8], b: &[u8]) {
     if bytes::same(name, b"getsigned") {
         get_data(Kind::Signed, b);
-        return true;
+        return;
     }
     if bytes::same(name, b"getunsigned") {
         get_data(Kind::Unsigned, b);
-        return true;
+        return;
     }
     if bytes::same(name, b"getfingers") {
         get_data(Kind::Fingers, b);
-        return true;
+        return;
     }
-    false
+    print::no_vector();
 }
 
-// Whether the name is that of a call of this file, and what it says of the bytes b then.
-pub(crate) fn answered(name: &[u8], b: &[u8]) -> bool {
+// What the call of that name says of the bytes b.
+pub(crate) fn answer(name: &[u8], b: &[u8]) {
     if bytes::same(name, b"select") {
         select(b);
-        return true;
+        return;
     }
     if bytes::same(name, b"getresponse") {
         get_response(b);
-        return true;
+        return;
     }
     if bytes::same(name, b"status") {
         status(b);
-        return true;
+        return;
     }
-    answered_get(name, b)
+    answer_get_data(name, b);
 }

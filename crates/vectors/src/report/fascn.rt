@@ -1,5 +1,6 @@
 // Prints what unpack and pack say, and the characters of figure 7.
 use crate::print;
+use crate::report::object;
 use card::bytes;
 use card::fascn;
 ghost use mathlib.Core.Path.{_≡_};
@@ -105,17 +106,17 @@ fn pack(s: &[u8]) {
     }
 }
 
-// Whether the name is that of a call of this file, and what it says of the bytes b then.
-pub(crate) fn answered(name: &[u8], b: &[u8]) -> bool {
+// What the call of that name says of the bytes b.
+pub(crate) fn answer(name: &[u8], b: &[u8]) {
     if bytes::same(name, b"unpack") {
         unpack(b);
-        return true;
+        return;
     }
     if bytes::same(name, b"pack") {
         pack(b);
-        return true;
+        return;
     }
-    false
+    object::answer(name, b);
 }
 
 // A character of the FASC-N whose digits are all x.

@@ -1,5 +1,6 @@
 // Prints what the readers of TLVs, templates, data objects and dates say.
 use crate::print;
+use crate::report::command;
 use card::bytes;
 use card::date;
 use card::date::Date;
@@ -78,7 +79,7 @@ fn print_part(p: Part) {
 }
 
 // The fields with these tags.
-fn print_fields(kind: Kind, parts: [Part; 5], tags: &[u8]) {
+fn print_fields(kind: Kind, parts: [Part; object::FIELDS], tags: &[u8]) {
     for i in 0..tags.len() {
         if 0 < i {
             print::text(b", ");
@@ -150,40 +151,40 @@ fn real(s: &[u8]) {
     }
 }
 
-// Whether the name is that of a data object, and what parse says then.
-fn answered_object(name: &[u8], b: &[u8]) -> bool {
+// The same for a name that is none of answer's.
+fn answer_object(name: &[u8], b: &[u8]) {
     if bytes::same(name, b"signed") {
         object_of(Kind::Signed, b, b"\x30\x34\x35\x3E");
-        return true;
+        return;
     }
     if bytes::same(name, b"unsigned") {
         object_of(Kind::Unsigned, b, b"\x30\x34\x35");
-        return true;
+        return;
     }
     if bytes::same(name, b"fingers") {
         object_of(Kind::Fingers, b, b"\xBC");
-        return true;
+        return;
     }
-    false
+    command::answer(name, b);
 }
 
-// Whether the name is that of a call of this file, and what it says of the bytes b then.
-pub(crate) fn answered(name: &[u8], b: &[u8]) -> bool {
+// What the call of that name says of the bytes b.
+pub(crate) fn answer(name: &[u8], b: &[u8]) {
     if bytes::same(name, b"header") {
         header(b);
-        return true;
+        return;
     }
     if bytes::same(name, b"template") {
         template_of(b);
-        return true;
+        return;
     }
     if bytes::same(name, b"date") {
         date_of(b);
-        return true;
+        return;
     }
     if bytes::same(name, b"real") {
         real(b);
-        return true;
+        return;
     }
-    answered_object(name, b)
+    answer_object(name, b);
 }

@@ -5,7 +5,7 @@ use Prim.Native.Nat.{_-_, _≤_}
 use native.Mathlib.Omega.{arith}
 use lib.Dec.{eqb}
 use lib.ListN.{length, getD, take, replicate}
-use Rattle.card.specs.Object.{field, empty, rowsOf, fieldOf, fieldsFrom, fieldsAnswer}
+use Rattle.card.specs.Object.{mostFields, field, empty, rowsOf, fieldOf, fieldsFrom, fieldsAnswer}
 use Rattle.card.proofs.FieldLaws.{row-at, Read, read-none, read-more, read-all}
 use Rattle.card.proofs.object.fields.Statement.{statement}
 use Rattle.card.proofs.object.fields.Tie as tie
@@ -32,7 +32,7 @@ loop-again c =
 -- after the loop, the two tests decide
 decided : (c : tie.After-loop Inv-loop μ-loop) → let at = c .before in
     fieldsAnswer (fieldsFrom (c .before .before .before .before .before .args .v .now) (c .before .before .before .before .before .args .base) (rowsOf (c .before .before .before .before .before .args .kind)) 0)
-    ≡ cond (at .loop .ok && eqb (at .loop .at) (length (c .before .before .before .before .before .args .v .now))) (0, at .loop .parts) (20, replicate 5 empty)
+    ≡ cond (at .loop .ok && eqb (at .loop .at) (length (c .before .before .before .before .before .args .v .now))) (0, at .loop .parts) (20, replicate mostFields empty)
 decided c =
     let l = c .before .before .before .layout-of in
     rw (← l .ensures .0) (read-all (c .before .loop .inv .1) (omega (arith, ap length (l .ensures .0), l .ensures .1 .1)) (omega arith))

@@ -22,7 +22,7 @@ part-requires c κs = omega (arith, only-is 0x61 (c .before .before .before .bef
 -- after the walk its two findings decide
 decided : (c : tie.After-walk) → templateOf (c .before .before .before .before .before .before .before .args .s .now) ≡ cond (c .walk .result .whole && eqb (c .walk .result .ids) 1) 0 19
 unfolding templateOf goodFrom
-decided c = rw (← whole-is (c .before .before .before), good-is _ (c .walk .ensures ∙ ap (walked 3 0) (c .before .part .ensures)))
+decided c = rw (← whole-is (c .before .before .before), good-is _ (c .walk .ensures ∙ ap (walked _ 0) (c .before .part .ensures)))
 
 returns : tie.Need-returns
 returns c = rw (decided (c .before .before .before), c .if1 .taken)

@@ -7,7 +7,7 @@ use Rattle.card.proofs.tlv.length_size.Tie as tie
 
 returns : tie.Need-returns
 unfolding lengthSize
-returns c = (simp (lt-ltb _ _ (c .if1 .taken)), omega arith)
+returns c = (simp (lt-ltb (c .before .args .a) 0x80 (omega arith)), omega arith)
 
 returns-2 : tie.Need-returns-2
 unfolding lengthSize

@@ -15,7 +15,7 @@ returns-2 c = (simp (eq-eqb _ _ (c .before .if1 .left), lt-ltb _ _ (c .if2 .take
 
 returns-3 : tie.Need-returns-3
 unfolding tagSize
-returns-3 c = (simp (eq-eqb _ _ (c .before .before .if1 .left), le-ltb _ _ (c .before .if2 .left), lt-ltb _ _ (c .if3 .taken)), omega arith)
+returns-3 c = (simp (eq-eqb _ _ (c .before .before .if1 .left), le-ltb _ _ (c .before .if2 .left), lt-ltb (c .before .before .before .args .c) 128 (omega arith)), omega arith)
 
 returns-4 : tie.Need-returns-4
 unfolding tagSize
