@@ -20,12 +20,25 @@ use Rattle.card.specs.declared.object.ObjectAnswer.the-variants as objec
 
 -- ---- the rows
 
--- A field with a tag, of so many bytes at least and at most: it has to be there, or it may be absent.
+-- What a row says of its field: its tag, its least and its greatest length, and whether it may be absent.
+abbrev pub rowTag : Row → ℕ
+rowTag r = r .0
+
+abbrev pub least : Row → ℕ
+least r = r .1
+
+abbrev pub greatest : Row → ℕ
+greatest r = r .2
+
+abbrev pub mayBeAbsent : Row → Bool
+mayBeAbsent r = r .3
+
+-- A field that has to be there, and one that may be absent.
 abbrev pub field : ℕ → ℕ → ℕ → Row
-field tag least greatest = record { 0 = tag; 1 = least; 2 = greatest; 3 = false }
+field tag low high = record { 0 = tag; 1 = low; 2 = high; 3 = false }
 
 abbrev pub optional : ℕ → ℕ → ℕ → Row
-optional tag least greatest = record { 0 = tag; 1 = least; 2 = greatest; 3 = true }
+optional tag low high = record { 0 = tag; 1 = low; 2 = high; 3 = true }
 
 -- 5FC102, signed: 30 (25 bytes), 34 (16), 35 (8), 3E (1 to 2,816), FE (0).
 -- 5FC104, unsigned (layout fixed here): 30 (25), 34 (16, may be absent), 35 (8), FE (0).
@@ -52,18 +65,18 @@ empty = part 0 0
 
 -- The row's field is absent at a place: the next row's is looked for there.
 abbrev pub absent : Row → ℕ → Field
-absent r at = record { ok = r .3; part = empty; next = at }
+absent r at = record { ok = mayBeAbsent r; part = empty; next = at }
 
 -- The row's field is the TLV at a place, its value from `start` on.
 abbrev pub found : ℕ → Row → ℕ → ℕ → ℕ → Field
 found base r at start len =
-    record { ok = leb (r .1) len && leb len (r .2); part = part (base + (at + start)) len; next = at + start + len }
+    record { ok = leb (least r) len && leb len (greatest r); part = part (base + (at + start)) len; next = at + start + len }
 
 -- The row's field at place `at` of a value that begins at place `base` of the whole, by the header of the TLV that stands there.
 unfoldable pub fieldFrom : Header → ℕ → Row → ℕ → Field
 fieldFrom Malformed base r at = absent r at
 fieldFrom (Whole tag nested start len) base r at =
-    cond (eqb tag (r .0)) (found base r at start len) (absent r at)
+    cond (eqb tag (rowTag r)) (found base r at start len) (absent r at)
 
 unfoldable pub fieldOf : List ℕ → ℕ → Row → ℕ → Field
 fieldOf v base r at = fieldFrom (headerOf (drop at v)) base r at
@@ -97,7 +110,7 @@ objectOf k s = objectFrom (onlyOf 0x53 s) k s
 unfoldable pub partIn : List Row → List Part → ℕ → Part
 partIn [] ps tag = empty
 partIn (r ∷ rs) [] tag = empty
-partIn (r ∷ rs) (p ∷ ps) tag = cond (eqb (r .0) tag) p (partIn rs ps tag)
+partIn (r ∷ rs) (p ∷ ps) tag = cond (eqb (rowTag r) tag) p (partIn rs ps tag)
 
 -- The bytes of a part of s; the value of the field with a tag in the object s.
 unfoldable pub bytesAt : List ℕ → Part → List ℕ
@@ -110,12 +123,12 @@ fieldValue k tag s = bytesAt s (partIn (rowsOf k) (objectOf k s .1) tag)
 
 -- A length that a row allows: of its field, or none where the field may be absent.
 abbrev pub allowed : Row → ℕ → Bool
-allowed r n = (leb (r .1) n && leb n (r .2)) || (r .3 && eqb n 0)
+allowed r n = (leb (least r) n && leb n (greatest r)) || (mayBeAbsent r && eqb n 0)
 
 -- The row with a tag; where there is none, one whose field is absent.
 unfoldable pub rowIn : List Row → ℕ → Row
 rowIn [] tag = optional tag 0 0
-rowIn (r ∷ rs) tag = cond (eqb (r .0) tag) r (rowIn rs tag)
+rowIn (r ∷ rs) tag = cond (eqb (rowTag r) tag) r (rowIn rs tag)
 
 -- The encodings of the rows' fields, one after another: each by the form of its length, and form 0 for a field that is left out.
 unfoldable pub encodings : List ℕ → List ℕ → List Row → List Part → List ℕ
@@ -123,7 +136,7 @@ encodings s [] rs ps = []
 encodings s (form ∷ forms) [] ps = []
 encodings s (form ∷ forms) (r ∷ rs) [] = []
 encodings s (form ∷ forms) (r ∷ rs) (p ∷ ps) =
-    cond (eqb form 0) [] (encoded form (r .0) (bytesAt s p)) ++ encodings s forms rs ps
+    cond (eqb form 0) [] (encoded form (rowTag r) (bytesAt s p)) ++ encodings s forms rs ps
 
 -- ---- the answer of the code: document 01's cause of each case, and the parts beside it
 

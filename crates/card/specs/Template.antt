@@ -41,11 +41,12 @@ abbrev pub wholeTlv : (List ℕ → Bool) → Tlv → Bool
 wholeTlv inner (tlv tag nested value) = not nested || inner value
 wholeTlv inner broken = false
 
+-- All TLVs of a list pass a test.
 unfoldable pub every : (Tlv → Bool) → List Tlv → Bool
 every test [] = true
 every test (t ∷ ts) = test t && every test ts
 
--- s is whole TLVs, and so is every nested value, d levels deep.
+-- s is whole TLVs, and so is every nested value, with d levels for TLVs to stand on; where there is none, no TLV may stand.
 unfoldable pub wholeTo : ℕ → List ℕ → Bool
 wholeTo zero s = eqb (length s) 0
 wholeTo (suc d) s = every (wholeTlv (wholeTo d)) (tlvsOf s)
