@@ -40,19 +40,23 @@ field-inside v base r at h =
     field-cases v base r at (λ (f : Field). Inside (base + length v) (f .part) × (f .next ≤ length v)) (omega arith, h)
     (λ tag start len nested e k. let i = field-end v base r at e h in (omega arith, i))
 
+-- the same of the fields of the rows from a place on
 fields-inside : (v : List ℕ) (base : ℕ) (rs : List Row) (at : ℕ) → at ≤ length v → AllInside (base + length v) (fieldsFrom v base rs at .1)
 unfolding fieldsFrom
 fields-inside v base [] at h = tt
 fields-inside v base (r ∷ rs) at h = let i = field-inside v base r at h in (i .0, fields-inside v base rs (fieldOf v base r at .next) (i .1))
 
+-- two lists of such parts make one
 inside-append : (n : ℕ) (ps qs : List Part) → AllInside n ps → AllInside n qs → AllInside n (ps ++ qs)
 inside-append n [] qs i j = j
 inside-append n (p ∷ ps) qs i j = (i .0, inside-append n ps qs (i .1) j)
 
+-- empty parts lie within any bytes
 inside-empty : (m n : ℕ) → AllInside n (replicate m empty)
 inside-empty zero n = tt
 inside-empty (suc m) n = (omega arith, inside-empty m n)
 
+-- the answer adds empty parts, or has only such
 answer-inside : (n : ℕ) (ok : Bool) (ps : List Part) → AllInside n ps → AllInside n (fieldsAnswer (ok, ps) .1)
 unfolding fieldsAnswer
 answer-inside n true ps i = inside-append n ps (replicate (mostFields - length ps) empty) i (inside-empty (mostFields - length ps) n)
@@ -88,6 +92,7 @@ part-inside-of n (r ∷ rs) (p ∷ ps) tag i = by-tag (eqb (r .0) tag) (part-ins
     by-tag true later = i .0
     by-tag false later = later
 
+-- in an object
 pub part-inside : (k : Kind) (s : List ℕ) (tag : ℕ) → Inside (length s) (partIn (rowsOf k) (objectOf k s .1) tag)
 part-inside k s tag = part-inside-of (length s) (rowsOf k) (objectOf k s .1) tag (parts-inside k s)
 
@@ -117,6 +122,7 @@ pub record Good (k : Kind) (s : List ℕ) : Type 0 where
   pub filler : List Part
   pub parts : objectOf k s .1 ≡ fieldsFrom (take len (drop start s)) start (rowsOf k) 0 .1 ++ filler
 
+-- an answer with cause 0 has the parts that were read
 answered : (ok : Bool) (ps : List Part) → fieldsAnswer (ok, ps) .0 ≡ 0 → (ok ≡ true) × (fieldsAnswer (ok, ps) .1 ≡ ps ++ replicate (mostFields - length ps) empty)
 unfolding fieldsAnswer
 answered true ps e = (refl, refl)
@@ -176,13 +182,15 @@ part-allowed k s tag p =
     let g = good k s p in
     rw (g .parts) (fields-allowed (take (g .len) (drop (g .start) s)) (g .start) (rowsOf k) 0 tag (g .filler) (g .fields))
 
-left : (x : Bool) → (x || false) ≡ true → x ≡ true
-left true e = refl
-left false e = e
+-- the first of two tests passes where the second does not
+or-left : (x : Bool) → (x || false) ≡ true → x ≡ true
+or-left true e = refl
+or-left false e = e
 
+-- a row that has to be there and has one length allows no other
 exact : (tag n m : ℕ) → allowed (field tag n n) m ≡ true → m ≡ n
 exact tag n m e =
-    let q = and-eq-true-iff (leb n m) (leb m n) .0 (left (leb n m && leb m n) e) in
+    let q = and-eq-true-iff (leb n m) (leb m n) .0 (or-left (leb n m && leb m n) e) in
     omega (arith, leb-true n m (q .0), leb-true m n (q .1))
 
 -- so where its row fixes the length and does not let it be absent, it has that length: `length-is Signed s 0x30 25 refl`
@@ -195,6 +203,7 @@ length-is k s tag n r p = exact tag n (partIn (rowsOf k) (objectOf k s .1) tag .
 front-part : (w : List ℕ) (at n : ℕ) → at ≤ length w → drop at (take (at + n) w) ≡ take n (drop at w)
 front-part w at n h = rw (take-add at n w) (drop-at (take at w) (take n (drop at w)) at (length-take-le at w h))
 
+-- the same of the first bytes, where they are as many as asked for
 part-of-front : (w : List ℕ) (len at n : ℕ) → length (take len w) ≡ len → at + n ≤ len → take n (drop at w) ≡ take n (drop at (take len w))
 part-of-front w len at n e h =
     sym (front-part w at n (omega (arith, length-drop len w, ap length (take-append-drop len w), length-append (take len w) (drop len w))))
@@ -211,6 +220,7 @@ front-bytes w len bytes i = by-place (ltb i (length (take len w))) refl
         rw e (bytes i)
     by-place false p = rw (List·getD-eq-default (take len w) 0 (ltb-false i (length (take len w)) p)) (omega arith)
 
+-- a form that has room for a length is not 0
 some-form : (form n : ℕ) → fitsForm form n ≡ true → form ≡ 0 → ⊥
 unfolding fitsForm
 some-form form n p e = false≢true (rw e at p)
@@ -222,6 +232,7 @@ module _ (s v : List ℕ) (base : ℕ) (more : List Part) (bytes : (i : ℕ) →
   abbrev Encoded : List Row → List Part → ℕ → Type 0
   Encoded rs ps at = (forms : List ℕ) × (encodings s forms rs ps ≡ drop at v)
 
+  -- one row more, given those after it
   one-field : (r : Row) (rs : List Row) (at : ℕ) → at ≤ length v
       → ((next : ℕ) → next ≤ length v → fieldsFrom v base rs next .0 ≡ true → Encoded rs (fieldsFrom v base rs next .1 ++ more) next)
       → let f = fieldOf v base r at in fieldsFrom v base rs (f .next) .0 ≡ true → Encoded (r ∷ rs) (f .part ∷ (fieldsFrom v base rs (f .next) .1 ++ more)) at
@@ -239,6 +250,7 @@ module _ (s v : List ℕ) (base : ℕ) (more : List Part) (bytes : (i : ℕ) →
       let piece : encoded form (r .0) (bytesAt s (part (base + (at + start)) len)) ≡ take (start + len) (drop at v) = rw (← k, here) (sym (w .3)) in
       (form ∷ later .0, rw (ne-eqb form 0 (some-form form len (w .1)), piece, later .1, after) (take-append-drop (start + len) (drop at v))))
 
+  -- all of them
   fields-encoded : (rs : List Row) (at : ℕ) → at ≤ length v → fieldsFrom v base rs at .0 ≡ true → Encoded rs (fieldsFrom v base rs at .1 ++ more) at
   unfolding fieldsFrom encodings
   fields-encoded [] at h o = ([], sym (drop-of-length-le v {i = at} (omega (arith, eqb-true at (length v) o))))

@@ -1,14 +1,14 @@
 -- A TLV that is whole: what its header says of its bytes, that it lies within its list, and that what stands after it does not matter.
 -- Assumes nothing.
 use mathlib.Core.Path.{_≡_, refl, sym, ap, _∙_}
-use mathlib.Core.Bool.{Bool, true, false, cond, _&&_, _||_, and-eq-true-iff}
+use mathlib.Core.Bool.{Bool, true, false, cond, _&&_, and-eq-true-iff}
 use mathlib.Core.List.{List, [], _++_}
 use Prim.Native.Nat.{ℕ, _+_, _*_, _%_, _≤_, _<_}
 use native.Mathlib.Omega.{arith}
 use borrow.Author.Tests.{eqb-true, ltb-false, eqb-false, le-ltb, ne-eqb}
 use lib.ListN.{length, getD, length-append, List·getD-append}
 use lib.Dec.{ltb, eqb}
-use Rattle.card.specs.Tlv.{tagSize, tagNumber, nestedBit, lengthSize, lengthOf, headerOf, onlyFrom, onlyOf}
+use Rattle.card.specs.Tlv.{tagSize, tagNumber, nestedBit, lengthSize, lengthOf, endingOf, afterTag, headerOf, onlyFrom, onlyOf}
 use Rattle.card.specs.declared.tlv.Header.{Header}
 use Rattle.card.specs.declared.tlv.Header.the-variants.{Whole, Malformed}
 
@@ -31,13 +31,13 @@ pub record Parts (s : List ℕ) (t l tag : ℕ) (nested : Bool) (len : ℕ) : Ty
 
 -- so its header is whole
 pub whole : (s : List ℕ) (t l : ℕ) {tag len : ℕ} {nested : Bool} → Parts s t l tag nested len → headerOf s ≡ Whole tag nested (t + l) len
-unfolding headerOf
+unfolding headerOf afterTag endingOf
 whole s t l {tag} {len} {nested} p =
     simp (p .size, p .number, p .bit, p .form, p .count, ne-eqb t 0 (omega arith), ne-eqb l 0 (omega arith), le-ltb (length s) (t + l + len) (p .inside))
 
 -- a whole TLV has passed the three tests
 picked : (x y z : Bool) (tag′ : ℕ) (k′ : Bool) (start′ len′ : ℕ) {tag start len : ℕ} {k : Bool}
-    → Whole tag k start len ≡ cond (x || y || z) Malformed (Whole tag′ k′ start′ len′)
+    → Whole tag k start len ≡ cond x Malformed (cond y Malformed (cond z Malformed (Whole tag′ k′ start′ len′)))
     → (x ≡ false) × (y ≡ false) × (z ≡ false) × (tag′ ≡ tag) × (k′ ≡ k) × (start′ ≡ start) × (len′ ≡ len)
 picked true y z tag′ k′ start′ len′ e = let h : _≡_ {A = ℕ} 0 1 = cc in absurd (omega arith)
 picked false true z tag′ k′ start′ len′ e = let h : _≡_ {A = ℕ} 0 1 = cc in absurd (omega arith)
@@ -48,7 +48,7 @@ picked false false false tag′ k′ start′ len′ e = (refl, refl, refl, (cc)
 pub parts : (s : List ℕ) {tag start len : ℕ} {nested : Bool} → Whole tag nested start len ≡ headerOf s
     → (front tagSize s + lengthSize (getD s (front tagSize s) 0) ≡ start)
     × Parts s (front tagSize s) (lengthSize (getD s (front tagSize s) 0)) tag nested len
-unfolding headerOf
+unfolding headerOf afterTag endingOf
 parts s {tag} {start} {len} {nested} e =
     let t = front tagSize s in
     let l = lengthSize (getD s t 0) in
@@ -71,7 +71,7 @@ parts s {tag} {start} {len} {nested} e =
 
 -- no bytes are no TLV
 pub header-empty : headerOf [] ≡ Malformed
-unfolding headerOf tagSize lengthSize lengthOf
+unfolding headerOf afterTag endingOf tagSize lengthSize lengthOf
 header-empty = refl
 
 -- it ends within the list

@@ -8,7 +8,7 @@ use lib.ListN.{replicate}
 use Rattle.card.specs.Range.{listOf, run, all, xorOf}
 use Rattle.card.specs.Date.{daysIn, realDate}
 use Rattle.card.specs.Object.{rowsOf, fieldFrom, fieldOf, fieldsFrom, fieldsAnswer, objectFrom, objectOf, partIn}
-use Rattle.card.specs.Tlv.{tagSize, tagNumber, lengthSize, lengthOf, headerOf, onlyFrom, onlyOf}
+use Rattle.card.specs.Tlv.{tagSize, tagNumber, lengthSize, lengthOf, endingOf, afterTag, headerOf, onlyFrom, onlyOf}
 use Rattle.card.specs.declared.object.Kind.the-variants.{Unsigned}
 use Rattle.card.specs.Fascn.{bitAt, valueAt, oddAt, valuesIn, digitsFrom, marksFrom, decimalAt, checkOf, unpackRefusal, unpackOf}
 
@@ -60,5 +60,5 @@ table =
     ∷ []
 
 pub twelve : map (λ row. row .0) table ≡ map (λ row. row .1) table
-unfolding table answer real object place partIn realDate daysIn objectOf objectFrom fieldsAnswer fieldsFrom fieldOf fieldFrom rowsOf onlyOf onlyFrom headerOf tagSize tagNumber lengthSize lengthOf unpackOf unpackRefusal bitAt valueAt oddAt valuesIn digitsFrom marksFrom decimalAt checkOf all listOf run xorOf
+unfolding table answer real object place partIn realDate daysIn objectOf objectFrom fieldsAnswer fieldsFrom fieldOf fieldFrom rowsOf onlyOf onlyFrom headerOf afterTag endingOf tagSize tagNumber lengthSize lengthOf unpackOf unpackRefusal bitAt valueAt oddAt valuesIn digitsFrom marksFrom decimalAt checkOf all listOf run xorOf
 twelve = refl

@@ -1,6 +1,6 @@
 -- TLVs (document 01, section Objects): "A TLV is tag, length, value." What the bytes at the front of a list are, and an encoder.
 -- Assumes nothing.
-use mathlib.Core.Bool.{Bool, cond, _&&_, _||_}
+use mathlib.Core.Bool.{Bool, cond, _&&_}
 use mathlib.Core.List.{List, [], _∷_, _++_}
 use Prim.Native.Nat.{ℕ, _+_, _*_, _/_, _%_}
 use lib.Dec.{eqb, ltb}
@@ -36,15 +36,26 @@ lengthOf a b c = cond (ltb a 0x80) a (cond (eqb a 0x81) b (b * 256 + c))
 
 -- ---- the header
 
--- The TLV at the front of s: its tag, whether its value is nested, where the value starts, and its length. A byte past the end reads as 0 here; a TLV
--- whose tag, length or value runs past the end is malformed by the last test.
+-- The TLV at the front of s is read in three steps: its tag, its length, its end. A byte past the end of s reads as 0 in the first two; a TLV whose tag, length
+-- or value runs past the end is malformed by the third.
+
+-- The value starts at a place and has a length: it ends within s.
+unfoldable pub endingOf : List ℕ → ℕ → Bool → ℕ → ℕ → Header
+endingOf s tag nested start len = cond (ltb (length s) (start + len)) Malformed (Whole tag nested start len)
+
+-- The tag takes t bytes: the length follows.
+unfoldable pub afterTag : List ℕ → ℕ → ℕ → Bool → Header
+afterTag s t tag nested =
+    let at : ℕ → ℕ = λ i. getD s i 0 in
+    let l = lengthSize (at t) in
+    cond (eqb l 0) Malformed (endingOf s tag nested (t + l) (lengthOf (at t) (at (t + 1)) (at (t + 2))))
+
+-- The header: the tag, whether the value is nested, where it starts, and its length.
 unfoldable pub headerOf : List ℕ → Header
 headerOf s =
     let at : ℕ → ℕ = λ i. getD s i 0 in
     let t = tagSize (at 0) (at 1) (at 2) in
-    let l = lengthSize (at t) in
-    let n = lengthOf (at t) (at (t + 1)) (at (t + 2)) in
-    cond (eqb t 0 || eqb l 0 || ltb (length s) (t + l + n)) Malformed (Whole (tagNumber (at 0) (at 1) (at 2)) (nestedBit (at 0)) (t + l) n)
+    cond (eqb t 0) Malformed (afterTag s t (tagNumber (at 0) (at 1) (at 2)) (nestedBit (at 0)))
 
 -- "one TLV with tag .. and nothing after it": its header, or malformed.
 unfoldable pub onlyFrom : Header → ℕ → List ℕ → Header

@@ -62,10 +62,11 @@ impl ObjectAnswer {
     }
 }
 
-// The part of each field beside the answer, in the order of the rows, and empty parts past the last row; all are empty where the object is malformed.
+// The part of each field beside the answer, in the order of the rows, and empty parts past the last row; all are empty where the object is malformed. The
+// parts come first: an answer of one byte before them would put each off its alignment.
 pub struct Object {
-    pub answer: ObjectAnswer,
     pub parts: [Part; FIELDS],
+    pub answer: ObjectAnswer,
 }
 
 fn layout_of(kind: Kind) -> Layout

@@ -2,7 +2,7 @@
 use crate::bytes;
 ghost use mathlib.Core.Path.{_≡_};
 ghost use Prim.Native.Nat.{_<_};
-ghost use Rattle.card.specs.Tlv.{tagSize, tagNumber, lengthSize, lengthOf, headerOf, onlyOf};
+ghost use Rattle.card.specs.Tlv.{endingOf, afterTag, headerOf, onlyOf};
 
 // A TLV that lies whole in the slice: its tag as a number, high byte first, whether its value is nested, where the value starts, and its length.
 pub enum Header {
@@ -15,87 +15,66 @@ pub enum Header {
     Malformed,
 }
 
-// A length's first byte below this is the length itself; from this on it says how many bytes follow.
-const LONG: u8 = 0x80;
-
-// How many bytes the tag takes, by its first three; 0 where it is malformed.
-fn tag_size(a: u8, b: u8, c: u8) -> usize
-    ensures is { λ r. ⌜ r ≡ tagSize a b c ⌝ }
-    ensures small { λ r. ⌜ r < 4 ⌝ }
+// The header of a TLV whose value starts at a place of s and has a length.
+fn ending(s: &[u8], tag: usize, nested: bool, start: usize, len: usize) -> Header
+    requires { ⌜ (start < 8) × (len < 65536) ⌝ }
+    ensures { λ r. ⌜ r ≡ endingOf (now (s .entry)) tag nested start len ⌝ }
 {
-    if a % 32 != 31 {
-        1
-    } else if b < 128 {
-        2
-    } else if c < 128 {
-        3
+    if s.len() < start + len {
+        Header::Malformed
     } else {
-        0
+        Header::Whole {
+            tag,
+            nested,
+            start,
+            len,
+        }
     }
 }
 
-fn tag_number(a: u8, b: u8, c: u8) -> usize
-    ensures { λ r. ⌜ r ≡ tagNumber a b c ⌝ }
+// The header of the TLV at the front of s, whose tag takes t bytes: its length is one byte, 81 and one, or 82 and two.
+fn after_tag(s: &[u8], t: usize, tag: usize, nested: bool) -> Header
+    requires { ⌜ t < 4 ⌝ }
+    ensures { λ r. ⌜ r ≡ afterTag (now (s .entry)) t tag nested ⌝ }
 {
-    if a % 32 != 31 {
-        a as usize
-    } else if b < 128 {
-        (a as usize) * 256 + (b as usize)
-    } else {
-        (a as usize) * 65536 + (b as usize) * 256 + (c as usize)
+    let a = bytes::byte(s, t);
+    if a < 0x80 {
+        return ending(s, tag, nested, t + 1, a as usize);
     }
+    let b = bytes::byte(s, t + 1);
+    if a == 0x81 {
+        return ending(s, tag, nested, t + 2, b as usize);
+    }
+    let c = bytes::byte(s, t + 2);
+    if a == 0x82 {
+        return ending(s, tag, nested, t + 3, (b as usize) * 256 + (c as usize));
+    }
+    Header::Malformed
 }
 
-// How many bytes the length takes, by its first; 0 where it is malformed.
-fn length_size(a: u8) -> usize
-    ensures is { λ r. ⌜ r ≡ lengthSize a ⌝ }
-    ensures small { λ r. ⌜ r < 4 ⌝ }
-{
-    if a < LONG {
-        1
-    } else if a == 0x81 {
-        2
-    } else if a == 0x82 {
-        3
-    } else {
-        0
-    }
-}
-
-fn length_of(a: u8, b: u8, c: u8) -> usize
-    ensures is { λ r. ⌜ r ≡ lengthOf a b c ⌝ }
-    ensures small { λ r. ⌜ r < 65536 ⌝ }
-{
-    if a < LONG {
-        a as usize
-    } else if a == 0x81 {
-        b as usize
-    } else {
-        (b as usize) * 256 + (c as usize)
-    }
-}
-
-// The header of the TLV at the front of s. A byte past the end reads as 0; that all lies within s is tested last.
+// The header of the TLV at the front of s: its tag is one, two or three bytes. A byte past the end reads as 0; that all lies within s is tested last.
 pub fn header_of(s: &[u8]) -> Header
     ensures { λ r. ⌜ r ≡ headerOf (now (s .entry)) ⌝ }
 {
     let a = bytes::byte(s, 0);
+    let nested = a / 0x20 % 2 == 1;
+    if a % 32 != 31 {
+        return after_tag(s, 1, a as usize, nested);
+    }
     let b = bytes::byte(s, 1);
+    if b < 128 {
+        return after_tag(s, 2, (a as usize) * 256 + (b as usize), nested);
+    }
     let c = bytes::byte(s, 2);
-    let t = tag_size(a, b, c);
-    let d = bytes::byte(s, t);
-    let l = length_size(d);
-    let n = length_of(d, bytes::byte(s, t + 1), bytes::byte(s, t + 2));
-    let number = tag_number(a, b, c);
-    if (t == 0) | (l == 0) | (s.len() < t + l + n) {
-        return Header::Malformed;
+    if c < 128 {
+        return after_tag(
+            s,
+            3,
+            (a as usize) * 65536 + (b as usize) * 256 + (c as usize),
+            nested,
+        );
     }
-    Header::Whole {
-        tag: number,
-        nested: a / 32 % 2 == 1,
-        start: t + l,
-        len: n,
-    }
+    Header::Malformed
 }
 
 // The header of s where s is one TLV with that tag and nothing after it.
