@@ -50,7 +50,7 @@ tag-read t r h =
     (g .0 ∙ e, g .1 ∙ n ∙ rw e (b .1), b .0)
 
 -- the bytes of a length are read as the length, whatever stands after them
-form-read : (form n : ℕ) (r : List ℕ) → fitsForm form n ≡ true
+pub form-read : (form n : ℕ) (r : List ℕ) → fitsForm form n ≡ true
     → (lengthSize (getD (lengthBytes form n ++ r) 0 0) ≡ form) × (front lengthOf (lengthBytes form n ++ r) ≡ n)
     × (length (lengthBytes form n) ≡ form) × (0 < form)
 unfolding lengthSize lengthOf lengthBytes fitsForm

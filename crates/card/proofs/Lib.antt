@@ -15,6 +15,8 @@ pub mod TemplateLaws
 pub mod FieldLaws
 -- ObjectLaws: the laws of a good object
 pub mod ObjectLaws
+-- MadeLaws: an object is accepted exactly where the encoder makes it
+pub mod MadeLaws
 -- CommandLaws: commands, and the buffer that they are written to
 pub mod CommandLaws
 -- XorLaws: the exclusive or

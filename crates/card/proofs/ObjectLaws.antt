@@ -1,18 +1,16 @@
--- The laws of data objects: where the parts lie, what lengths they have, that what stands after an object does not matter, and that a good object is the
--- encodings of its fields. A crate above cites these.
+-- The laws of data objects: where the parts lie, what lengths they have, and that what stands after an object does not matter. A crate above cites these.
 -- Assumes nothing.
 use mathlib.Core.Path.{_≡_, refl, sym, ap, subst, _∙_}
-use mathlib.Core.Bool.{Bool, true, false, cond, _&&_, _||_, and-eq-true-iff, or-true, false≢true}
+use mathlib.Core.Bool.{Bool, true, false, cond, _&&_, _||_, and-eq-true-iff, or-true}
 use mathlib.Core.List.{List, [], _∷_, _++_}
 use Prim.Native.Nat.{ℕ, zero, suc, _+_, _-_, _≤_, _<_}
-use native.Mathlib.Nat.{add-assoc}
 use native.Mathlib.Omega.{arith}
-use borrow.Author.Tests.{ne-eqb, eqb-true, leb-true, ltb-true, ltb-false}
-use lib.Dec.{eqb, leb, ltb}
-use lib.ListN.{length, getD, take, drop, replicate, length-append, length-drop, take-append-drop, drop-of-length-le, List·getD-append, List·getD-eq-default}
-use lib.Seq.{take-append-le, drop-append-le, length-take-le, take-all, take-add, take-take, drop-at, drop-drop, getD-drop}
-use Rattle.card.specs.Tlv.{headerOf, onlyOf, tagBytes, fitsForm, encoded}
-use Rattle.card.specs.Object.{mostFields, field, part, empty, rowsOf, fieldOf, fieldsFrom, fieldsAnswer, objectFrom, objectOf, partIn, bytesAt, fieldValue, allowed, rowIn, encodings}
+use borrow.Author.Tests.{leb-true}
+use lib.Dec.{eqb, leb}
+use lib.ListN.{length, take, drop, replicate, length-drop}
+use lib.Seq.{take-append-le, drop-append-le, length-take-le}
+use Rattle.card.specs.Tlv.{headerOf, onlyOf}
+use Rattle.card.specs.Object.{mostFields, field, part, empty, rowsOf, fieldOf, fieldsFrom, fieldsAnswer, objectFrom, objectOf, partIn, bytesAt, fieldValue, allowed, rowIn}
 use Rattle.card.specs.declared.tlv.Header.{Header}
 use Rattle.card.specs.declared.tlv.Header.the-variants.{Whole, Malformed}
 use Rattle.card.specs.declared.object.Kind.{Kind}
@@ -20,7 +18,6 @@ use Rattle.card.specs.declared.object.Row.{Row}
 use Rattle.card.specs.declared.object.Part.{Part}
 use Rattle.card.specs.declared.object.Field.{Field}
 use Rattle.card.proofs.TlvLaws.{header-start, only-is}
-use Rattle.card.proofs.EncoderLaws.{written-back}
 use Rattle.card.proofs.FieldLaws.{field-cases, field-end}
 
 -- ---- where the parts lie
@@ -196,79 +193,3 @@ exact tag n m e =
 -- so where its row fixes the length and does not let it be absent, it has that length: `length-is Signed s 0x30 25 refl`
 pub length-is : (k : Kind) (s : List ℕ) (tag n : ℕ) → rowIn (rowsOf k) tag ≡ field tag n n → objectOf k s .0 ≡ 0 → partIn (rowsOf k) (objectOf k s .1) tag .len ≡ n
 length-is k s tag n r p = exact tag n (partIn (rowsOf k) (objectOf k s .1) tag .len) (rw r at (part-allowed k s tag p))
-
--- ---- a good object is the encodings of its fields
-
--- a part of the first bytes of a list is that part of the list
-front-part : (w : List ℕ) (at n : ℕ) → at ≤ length w → drop at (take (at + n) w) ≡ take n (drop at w)
-front-part w at n h = rw (take-add at n w) (drop-at (take at w) (take n (drop at w)) at (length-take-le at w h))
-
--- the same of the first bytes, where they are as many as asked for
-part-of-front : (w : List ℕ) (len at n : ℕ) → length (take len w) ≡ len → at + n ≤ len → take n (drop at w) ≡ take n (drop at (take len w))
-part-of-front w len at n e h =
-    sym (front-part w at n (omega (arith, length-drop len w, ap length (take-append-drop len w), length-append (take len w) (drop len w))))
-    ∙ ap (drop at) (sym (take-take (at + n) len w h)) ∙ front-part (take len w) at n (omega arith)
-
--- bytes are bytes in the first part of a list too
-front-bytes : (w : List ℕ) (len : ℕ) → ((i : ℕ) → getD w i 0 < 256) → (i : ℕ) → getD (take len w) i 0 < 256
-front-bytes w len bytes i = by-place (ltb i (length (take len w))) refl
-  where
-    by-place : (k : Bool) → ltb i (length (take len w)) ≡ k → getD (take len w) i 0 < 256
-    by-place true p =
-        let e : getD (take len w) i 0 ≡ getD w i 0 =
-        sym (List·getD-append (take len w) (drop len w) 0 i (ltb-true i (length (take len w)) p)) ∙ ap (λ (l : List ℕ). getD l i 0) (take-append-drop len w) in
-        rw e (bytes i)
-    by-place false p = rw (List·getD-eq-default (take len w) 0 (ltb-false i (length (take len w)) p)) (omega arith)
-
--- a form that has room for a length is not 0
-some-form : (form n : ℕ) → fitsForm form n ≡ true → form ≡ 0 → ⊥
-unfolding fitsForm
-some-form form n p e = false≢true (rw e at p)
-
--- s holds the value v from place base on
-module _ (s v : List ℕ) (base : ℕ) (more : List Part) (bytes : (i : ℕ) → getD v i 0 < 256)
-    (held : (at n : ℕ) → at + n ≤ length v → bytesAt s (part (base + at) n) ≡ take n (drop at v)) where
-  -- the rows from a place on
-  abbrev Encoded : List Row → List Part → ℕ → Type 0
-  Encoded rs ps at = (forms : List ℕ) × (encodings s forms rs ps ≡ drop at v)
-
-  -- one row more, given those after it
-  one-field : (r : Row) (rs : List Row) (at : ℕ) → at ≤ length v
-      → ((next : ℕ) → next ≤ length v → fieldsFrom v base rs next .0 ≡ true → Encoded rs (fieldsFrom v base rs next .1 ++ more) next)
-      → let f = fieldOf v base r at in fieldsFrom v base rs (f .next) .0 ≡ true → Encoded (r ∷ rs) (f .part ∷ (fieldsFrom v base rs (f .next) .1 ++ more)) at
-  unfolding encodings
-  one-field r rs at h rest =
-      field-cases v base r at (λ (f : Field). fieldsFrom v base rs (f .next) .0 ≡ true → Encoded (r ∷ rs) (f .part ∷ (fieldsFrom v base rs (f .next) .1 ++ more)) at)
-      (λ o. let later = rest at h o in (0 ∷ later .0, later .1))
-      (λ tag start len nested e k o.
-      let later = rest (at + start + len) (field-end v base r at e h) o in
-      let w = written-back (drop at v) (λ i. rw getD-drop (bytes (at + i))) e in
-      let form = start - length (tagBytes tag) in
-      let here : bytesAt s (part (base + (at + start)) len) ≡ take len (drop start (drop at v)) =
-      held (at + start) len (field-end v base r at e h) ∙ ap (take len) (sym (drop-drop start at v)) in
-      let after : drop (at + start + len) v ≡ drop (start + len) (drop at v) = rw (drop-drop, add-assoc) in
-      let piece : encoded form (r .0) (bytesAt s (part (base + (at + start)) len)) ≡ take (start + len) (drop at v) = rw (← k, here) (sym (w .3)) in
-      (form ∷ later .0, rw (ne-eqb form 0 (some-form form len (w .1)), piece, later .1, after) (take-append-drop (start + len) (drop at v))))
-
-  -- all of them
-  fields-encoded : (rs : List Row) (at : ℕ) → at ≤ length v → fieldsFrom v base rs at .0 ≡ true → Encoded rs (fieldsFrom v base rs at .1 ++ more) at
-  unfolding fieldsFrom encodings
-  fields-encoded [] at h o = ([], sym (drop-of-length-le v {i = at} (omega (arith, eqb-true at (length v) o))))
-  fields-encoded (r ∷ rs) at h o =
-      let f = fieldOf v base r at in
-      one-field r rs at h (λ next i p. fields-encoded rs next i p) (and-eq-true-iff (f .ok) (fieldsFrom v base rs (f .next) .0) .0 o .1)
-
--- the value of a good object is the encodings of its fields, one after another, each in one of the forms of its length; and the object is the encoding of
--- that value
-pub object-encoded : (k : Kind) (s : List ℕ) → ((i : ℕ) → getD s i 0 < 256) → objectOf k s .0 ≡ 0
-    → (forms : List ℕ) × (form : ℕ) × (s ≡ encoded form 0x53 (encodings s forms (rowsOf k) (objectOf k s .1)))
-unfolding bytesAt
-object-encoded k s bytes p =
-    let g = good k s p in
-    let v = take (g .len) (drop (g .start) s) in
-    let len-is : length v ≡ g .len = length-take-le (g .len) (drop (g .start) s) (omega (arith, g .ends, length-drop (g .start) s)) in
-    let held : (at n : ℕ) → at + n ≤ length v → bytesAt s (part (g .start + at) n) ≡ take n (drop at v) =
-    λ at n h. ap (take n) (sym (drop-drop at (g .start) s)) ∙ part-of-front (drop (g .start) s) (g .len) at n len-is (omega arith) in
-    let f = fields-encoded s v (g .start) (g .filler) (front-bytes (drop (g .start) s) (g .len) (λ i. rw getD-drop (bytes (g .start + i)))) held (rowsOf k) 0 (omega arith) (g .fields) in
-    let w = written-back s bytes (g .whole) in
-    (f .0, g .start - length (tagBytes 0x53), rw (g .parts, f .1) (sym (take-all (g .start + g .len) s (omega (arith, g .ends))) ∙ w .3))

@@ -1,12 +1,13 @@
 -- Data objects (document 01, section Objects): "A data object is one TLV with tag 53 and nothing after; its value holds one-byte-tag fields, each once, in
 -- this order". Fields are not opened further.
 -- Assumes nothing.
+use mathlib.Core.Path.{_≡_}
 use mathlib.Core.Bool.{Bool, true, false, cond, _&&_, _||_}
 use mathlib.Core.List.{List, [], _∷_, _++_}
-use Prim.Native.Nat.{ℕ, _+_, _-_}
+use Prim.Native.Nat.{ℕ, _+_, _-_, _≤_}
 use lib.Dec.{eqb, leb}
 use lib.ListN.{length, take, drop, replicate}
-use Rattle.card.specs.Tlv.{headerOf, onlyOf, encoded}
+use Rattle.card.specs.Tlv.{headerOf, onlyOf, fitsForm, encoded}
 use Rattle.card.specs.declared.tlv.Header.{Header}
 use Rattle.card.specs.declared.tlv.Header.the-variants.{Whole, Malformed}
 use Rattle.card.specs.declared.object.Kind.{Kind}
@@ -130,13 +131,19 @@ unfoldable pub rowIn : List Row → ℕ → Row
 rowIn [] tag = optional tag 0 0
 rowIn (r ∷ rs) tag = cond (eqb (rowTag r) tag) r (rowIn rs tag)
 
--- The encodings of the rows' fields, one after another: each by the form of its length, and form 0 for a field that is left out.
-unfoldable pub encodings : List ℕ → List ℕ → List Row → List Part → List ℕ
-encodings s [] rs ps = []
-encodings s (form ∷ forms) [] ps = []
-encodings s (form ∷ forms) (r ∷ rs) [] = []
-encodings s (form ∷ forms) (r ∷ rs) (p ∷ ps) =
-    cond (eqb form 0) [] (encoded form (rowTag r) (bytesAt s p)) ++ encodings s forms rs ps
+-- What the encoder makes for rows: the encodings of their fields, one after another, and the values of these. A field is left out, its value then [], only
+-- where its row says that it may be absent; a value that is given has a length that its row allows and that its form, of so many bytes, has room for.
+pub data Made : List Row → List ℕ → List (List ℕ) → Type 0 where
+  no-rows : Made [] [] []
+  left-out : {r : Row} {rs : List Row} {v : List ℕ} {values : List (List ℕ)} → mayBeAbsent r ≡ true → Made rs v values → Made (r ∷ rs) v ([] ∷ values)
+  given : {r : Row} {rs : List Row} {v : List ℕ} {values : List (List ℕ)} (form : ℕ) (value : List ℕ) → least r ≤ length value → length value ≤ greatest r
+      → fitsForm form (length value) ≡ true → Made rs v values → Made (r ∷ rs) (encoded form (rowTag r) value ++ v) (value ∷ values)
+
+-- Of values that are given for rows, that of the row with a tag; [] where no row has it.
+unfoldable pub valueIn : List Row → List (List ℕ) → ℕ → List ℕ
+valueIn [] values tag = []
+valueIn (r ∷ rs) [] tag = []
+valueIn (r ∷ rs) (value ∷ values) tag = cond (eqb (rowTag r) tag) value (valueIn rs values tag)
 
 -- ---- the answer of the code: document 01's cause of each case, and the parts beside it
 
