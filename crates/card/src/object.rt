@@ -15,7 +15,7 @@ pub enum Kind {
 }
 
 // A row of an object's layout: the field's tag, the least and the greatest length of its value, and whether it may be absent.
-pub struct Row(pub usize, pub usize, pub usize, pub bool);
+pub(crate) struct Row(pub usize, pub usize, pub usize, pub bool);
 
 // The most fields that an object has; `mostFields` in the definitions.
 pub const FIELDS: usize = 5;
@@ -24,7 +24,7 @@ pub const FIELDS: usize = 5;
 const NONE: Row = Row(0, 0, 0, false);
 
 // The first n are an object's rows.
-pub struct Layout {
+pub(crate) struct Layout {
     pub n: usize,
     pub rows: [Row; FIELDS],
 }
@@ -38,7 +38,7 @@ pub struct Part {
 const EMPTY: Part = Part { start: 0, len: 0 };
 
 // A field read at a place: whether it is as its row asks, its part, and the place after it.
-pub struct Field {
+pub(crate) struct Field {
     pub ok: bool,
     pub part: Part,
     pub next: usize,

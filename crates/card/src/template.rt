@@ -38,7 +38,7 @@ fn note(ids: usize, tag: usize, len: usize) -> usize
 }
 
 // What a walk finds: whether the bytes are whole TLVs to the depth left, and the 4Fs that they directly hold, by note; 0 where they are not whole.
-pub struct Walked {
+pub(crate) struct Walked {
     pub whole: bool,
     pub ids: usize,
 }
