@@ -7,25 +7,41 @@ use card::command::CommandAnswer;
 use card::command::Status;
 use card::object::Kind;
 
-// The first n bytes.
+// How many bytes were written, and the buffer: those bytes, then the rest, which held FF.
 fn print_written(n: usize, out: &[u8]) {
     print::number(n as u64);
     print::text(b" bytes ");
     let end = line::within(n, out.len());
     print::hex(&out[..end]);
+    print::text(b", then ");
+    print::hex(&out[end..]);
 }
 
-fn print_answer(answer: CommandAnswer, out: &[u8; 32]) {
+// The number, and the buffer.
+fn print_refused(number: u8, out: &[u8]) {
+    print::refused(number);
+    print::text(b", the buffer ");
+    print::hex(out);
+}
+
+fn print_answer(answer: CommandAnswer, out: &[u8]) {
     match answer {
         CommandAnswer::Written(n) => print_written(n, out),
-        CommandAnswer::WrongAid => print::refused(answer.number()),
-        CommandAnswer::ShortBuffer => print::refused(answer.number()),
+        CommandAnswer::WrongAid => print_refused(answer.number(), out),
+        CommandAnswer::ShortBuffer => print_refused(answer.number(), out),
     }
 }
 
 // SELECT of the AID b.
 fn select(b: &[u8]) {
-    let mut out = [0xFFu8; 32];
+    let mut out = [0xFFu8; 24];
+    let answer = command::select(b, &mut out);
+    print_answer(answer, &out);
+}
+
+// The same into a buffer of 14 bytes.
+fn select_short(b: &[u8]) {
+    let mut out = [0xFFu8; 14];
     let answer = command::select(b, &mut out);
     print_answer(answer, &out);
 }
@@ -36,8 +52,19 @@ fn get_data(kind: Kind, b: &[u8]) {
         print::no_vector();
         return;
     }
-    let mut out = [0xFFu8; 32];
+    let mut out = [0xFFu8; 12];
     let answer = command::get_data(kind, &mut out);
+    print_answer(answer, &out);
+}
+
+// GET DATA of the signed object into a buffer of 10 bytes; the line spells no bytes.
+fn get_data_short(b: &[u8]) {
+    if b.len() != 0 {
+        print::no_vector();
+        return;
+    }
+    let mut out = [0xFFu8; 10];
+    let answer = command::get_data(Kind::Signed, &mut out);
     print_answer(answer, &out);
 }
 
@@ -47,7 +74,18 @@ fn get_response(b: &[u8]) {
         print::no_vector();
         return;
     }
-    let mut out = [0xFFu8; 32];
+    let mut out = [0xFFu8; 6];
+    let answer = command::get_response(b[0], &mut out);
+    print_answer(answer, &out);
+}
+
+// The same into a buffer of 4 bytes.
+fn get_response_short(b: &[u8]) {
+    if b.len() != 1 {
+        print::no_vector();
+        return;
+    }
+    let mut out = [0xFFu8; 4];
     let answer = command::get_response(b[0], &mut out);
     print_answer(answer, &out);
 }
@@ -64,6 +102,23 @@ fn status(b: &[u8]) {
     }
 }
 
+// The same for a name that is none of those, with buffers that may be too short.
+fn answer_short(name: &[u8], b: &[u8]) {
+    if bytes::same(name, b"shortselect") {
+        select_short(b);
+        return;
+    }
+    if bytes::same(name, b"shortgetsigned") {
+        get_data_short(b);
+        return;
+    }
+    if bytes::same(name, b"shortgetresponse") {
+        get_response_short(b);
+        return;
+    }
+    print::no_vector();
+}
+
 // The same for a name that is none of answer's.
 fn answer_get_data(name: &[u8], b: &[u8]) {
     if bytes::same(name, b"getsigned") {
@@ -78,7 +133,7 @@ fn answer_get_data(name: &[u8], b: &[u8]) {
         get_data(Kind::Fingers, b);
         return;
     }
-    print::no_vector();
+    answer_short(name, b);
 }
 
 // What the call of that name says of the bytes b.
