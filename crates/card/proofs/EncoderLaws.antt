@@ -12,7 +12,7 @@ use lib.ListN.{length, getD, take, drop, length-append, length-drop, List·getD-
 use lib.Seq.{getD-drop, getD-take, take-add, take-at, drop-at, drop-append-add, drop-append-seam, length-take-le}
 use Rattle.card.specs.Tlv.{tagSize, tagNumber, nestedBit, lengthSize, lengthOf, headerOf, tagBytes, isTag, lengthBytes, fitsForm, encoded}
 use Rattle.card.specs.declared.tlv.Header.the-variants.{Whole}
-use Rattle.card.proofs.TlvLaws.{front, tag-cases, length-cases, Parts, whole, parts, tag-agree}
+use Rattle.card.proofs.TlvLaws.{ofThree, tag-cases, length-cases, Parts, whole, parts, tag-agree}
 
 -- ---- the bytes of a number
 
@@ -31,7 +31,7 @@ abbrev made : ℕ → ℕ → ℕ → ℕ → ℕ
 made k a b c = cond (eqb k 1) a (cond (eqb k 2) (a * 256 + b) (a * 65536 + b * 256 + c))
 
 -- the bytes of a number, one at least, make it
-bytes-made : (t : ℕ) (x y : Bool) → ltb t 256 ≡ x → ltb t 65536 ≡ y → (0 < length (tagBytes t)) × (front (made (length (tagBytes t))) (tagBytes t) ≡ t)
+bytes-made : (t : ℕ) (x y : Bool) → ltb t 256 ≡ x → ltb t 65536 ≡ y → (0 < length (tagBytes t)) × (ofThree (made (length (tagBytes t))) (tagBytes t) ≡ t)
 unfolding tagBytes
 bytes-made t true y p q = simp p (omega arith, refl)
 bytes-made t false true p q = simp (p, q) (omega arith, div-add-mod' t 256)
@@ -39,19 +39,19 @@ bytes-made t false false p q = simp (p, q) (omega arith, omega arith)
 
 -- the bytes of a tag are read as the tag, whatever stands after them
 tag-read : (t : ℕ) (r : List ℕ) → isTag t ≡ true
-    → (front tagSize (tagBytes t ++ r) ≡ length (tagBytes t)) × (front tagNumber (tagBytes t ++ r) ≡ t) × (0 < length (tagBytes t))
+    → (ofThree tagSize (tagBytes t ++ r) ≡ length (tagBytes t)) × (ofThree tagNumber (tagBytes t ++ r) ≡ t) × (0 < length (tagBytes t))
 unfolding isTag
 tag-read t r h =
     let s = tagBytes t in
     let b = bytes-made t (ltb t 256) (ltb t 65536) refl refl in
-    let e : front tagSize s ≡ length s = eqb-true (front tagSize s) (length s) (and-eq-true-iff (ltb t 0x1000000) (eqb (front tagSize s) (length s)) .0 h .1) in
-    let n = tag-cases (getD s 0 0) (getD s 1 0) (getD s 2 0) (λ k n. n ≡ front (made k) s) (λ p. refl) (λ p q. refl) (λ p q r. refl) (omega arith) in
+    let e : ofThree tagSize s ≡ length s = eqb-true (ofThree tagSize s) (length s) (and-eq-true-iff (ltb t 0x1000000) (eqb (ofThree tagSize s) (length s)) .0 h .1) in
+    let n = tag-cases (getD s 0 0) (getD s 1 0) (getD s 2 0) (λ k n. n ≡ ofThree (made k) s) (λ p. refl) (λ p q. refl) (λ p q r. refl) (omega arith) in
     let g = tag-agree s (s ++ r) (omega arith) (λ i l. List·getD-append s r 0 i (omega arith)) in
     (g .0 ∙ e, g .1 ∙ n ∙ rw e (b .1), b .0)
 
 -- the bytes of a length are read as the length, whatever stands after them
 pub form-read : (form n : ℕ) (r : List ℕ) → fitsForm form n ≡ true
-    → (lengthSize (getD (lengthBytes form n ++ r) 0 0) ≡ form) × (front lengthOf (lengthBytes form n ++ r) ≡ n)
+    → (lengthSize (getD (lengthBytes form n ++ r) 0 0) ≡ form) × (ofThree lengthOf (lengthBytes form n ++ r) ≡ n)
     × (length (lengthBytes form n) ≡ form) × (0 < form)
 unfolding lengthSize lengthOf lengthBytes fitsForm
 form-read zero n r h = absurd (false≢true h)
@@ -64,7 +64,7 @@ form-read (suc (suc (suc (suc k)))) n r h =
 
 -- f of the three bytes from a place on
 front-drop : (f : ℕ → ℕ → ℕ → ℕ) (t : ℕ) (s : List ℕ) {r : List ℕ} → drop t s ≡ r
-    → f (getD s t 0) (getD s (t + 1) 0) (getD s (t + 2) 0) ≡ front f r
+    → f (getD s t 0) (getD s (t + 1) 0) (getD s (t + 2) 0) ≡ ofThree f r
 front-drop f t s e = rw (← e) (simp (getD-drop, add-zero))
 
 -- the header of what is written
@@ -122,16 +122,16 @@ tag-bytes a b c s h i j =
     (λ p q. (omega arith, simp (le-ltb m 256 (omega (arith, big p)), lt-ltb m 65536 (omega arith), v .0, v .1)))
     (λ p q r. (omega arith, simp (le-ltb l 256 (omega (arith, big p)), le-ltb l 65536 (omega (arith, big p)), w .0, w .1, w .2)))
 
--- the tag at the front of a list is written in those bytes
-tag-back : (s : List ℕ) → ((i : ℕ) → getD s i 0 < 256) → 0 < front tagSize s → front tagSize s ≤ length s
-    → (isTag (front tagNumber s) ≡ true) × (tagBytes (front tagNumber s) ≡ take (front tagSize s) s)
+-- the tag at the ofThree of a list is written in those bytes
+tag-back : (s : List ℕ) → ((i : ℕ) → getD s i 0 < 256) → 0 < ofThree tagSize s → ofThree tagSize s ≤ length s
+    → (isTag (ofThree tagNumber s) ≡ true) × (tagBytes (ofThree tagNumber s) ≡ take (ofThree tagSize s) s)
 unfolding isTag
 tag-back s bytes h fits =
-    let t = front tagSize s in
+    let t = ofThree tagSize s in
     let w = tag-bytes (getD s 0 0) (getD s 1 0) (getD s 2 0) (drop 3 s) (bytes 0) (bytes 1) (bytes 2) h in
-    let e : tagBytes (front tagNumber s) ≡ take t s = w .1 ∙ front-is t s fits in
+    let e : tagBytes (ofThree tagNumber s) ≡ take t s = w .1 ∙ front-is t s fits in
     let g = tag-agree s (take t s) h (λ i l. getD-take t s i 0 l) in
-    (rw (lt-ltb (front tagNumber s) 0x1000000 (w .0), e, length-take-le t s fits) (eq-eqb (front tagSize (take t s)) t (g .0)), e)
+    (rw (lt-ltb (ofThree tagNumber s) 0x1000000 (w .0), e, length-take-le t s fits) (eq-eqb (ofThree tagSize (take t s)) t (g .0)), e)
 
 -- the bytes of a length that is read are those of its form
 form-bytes : (a b c : ℕ) (s : List ℕ) → b < 256 → c < 256 → 0 < lengthSize a
@@ -148,7 +148,7 @@ pub written-back : (s : List ℕ) {tag start len : ℕ} {nested : Bool} → ((i 
     × (take (start + len) s ≡ encoded (start - length (tagBytes tag)) tag (take len (drop start s)))
 unfolding encoded
 written-back s {tag} {start} {len} {nested} bytes e =
-    let t = front tagSize s in
+    let t = ofThree tagSize s in
     let a = getD s t 0 in
     let l = lengthSize a in
     let at : t + l ≡ start = parts s e .0 in

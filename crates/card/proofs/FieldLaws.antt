@@ -8,7 +8,7 @@ use native.Mathlib.Numerals.{add-one}
 use native.Mathlib.Omega.{arith}
 use borrow.Author.Tests.{eq-eqb, ne-eqb, eqb-true, eqb-false}
 use lib.Dec.{eqb}
-use lib.ListN.{length, getD, set, take, drop, replicate, length-drop, length-set, take-append-drop}
+use lib.ListN.{length, getD, set, take, drop, replicate, length-set, take-append-drop}
 use lib.Seq.{take-suc-set, drop-set-lt, drop-cons, getD-take, drop-drop, drop-length, length-take-le, append-snoc}
 use Rattle.card.specs.Tlv.{headerOf}
 use Rattle.card.specs.Object.{mostFields, empty, absent, found, fieldFrom, fieldOf, fieldsFrom, fieldsAnswer, partIn}
@@ -17,27 +17,26 @@ use Rattle.card.specs.declared.tlv.Header.the-variants.{Whole, Malformed
 use Rattle.card.specs.declared.object.Row.{Row}
 use Rattle.card.specs.declared.object.Part.{Part}
 use Rattle.card.specs.declared.object.Field.{Field}
-use Rattle.card.proofs.TlvLaws.{header-inside}
 
 -- ---- one field
 
 -- a row's field, by what stands at the place
 module _ (v : List ℕ) (base : ℕ) (r : Row) (at : ℕ) where
+  -- no TLV
   pub field-none : Malformed ≡ headerOf (drop at v) → absent r at ≡ fieldOf v base r at
   unfolding fieldOf fieldFrom
   field-none e = rw (← e)
 
   module _ {tag start len : ℕ} {nested : Bool} (e : Whole tag nested start len ≡ headerOf (drop at v)) where
+    -- a TLV with another tag
     pub field-other : (tag ≡ r .0 → ⊥) → absent r at ≡ fieldOf v base r at
     unfolding fieldOf fieldFrom
     field-other h = rw (← e, ne-eqb _ _ h)
 
+    -- a TLV with its tag
     pub field-found : tag ≡ r .0 → found base r at start len ≡ fieldOf v base r at
     unfolding fieldOf fieldFrom
     field-found h = rw (← e, eq-eqb _ _ h)
-
-    pub field-end : at ≤ length v → at + start + len ≤ length v
-    field-end h = omega (arith, header-inside (drop at v) e, length-drop at v)
 
 -- the two cases: it is absent, or a TLV with its tag stands at the place
 pub field-cases : (v : List ℕ) (base : ℕ) (r : Row) (at : ℕ) (P : Field → Type 0) → P (absent r at)

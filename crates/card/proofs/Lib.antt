@@ -1,24 +1,8 @@
--- The laws of this crate's definitions, from the general to the FASC-N. A crate above cites FascnLaws.
+-- The laws of this crate's definitions, from the general to the particular. A crate above cites FascnLaws, TlvLaws, TemplateLaws, ObjectLaws, DateLaws and CommandLaws.
 -- RangeLaws: lists and tests by index, and what a loop adds to them
 pub mod RangeLaws
 -- NumberLaws: numbers and their digits to a base
 pub mod NumberLaws
--- TlvLaws: the header of a TLV
-pub mod TlvLaws
--- EncoderLaws: what the encoder makes is read back, and what is read is what the encoder makes
-pub mod EncoderLaws
--- DateLaws: dates, and the order of days
-pub mod DateLaws
--- TemplateLaws: the TLVs of a list, and the walk over them
-pub mod TemplateLaws
--- FieldLaws: the fields of an object, and the walk over its rows
-pub mod FieldLaws
--- ObjectLaws: the laws of a good object
-pub mod ObjectLaws
--- MadeLaws: an object is accepted exactly where the encoder makes it
-pub mod MadeLaws
--- CommandLaws: commands, and the buffer that they are written to
-pub mod CommandLaws
 -- XorLaws: the exclusive or
 pub mod XorLaws
 -- CharacterLaws: bytes, characters and values
@@ -27,5 +11,21 @@ pub mod CharacterLaws
 pub mod OrderLaws
 -- FascnLaws: the laws of unpack, pack, key and equality
 pub mod FascnLaws
+-- TlvLaws: the header of a TLV
+pub mod TlvLaws
+-- EncoderLaws: what the encoder makes is read back, and what is read is what the encoder makes
+pub mod EncoderLaws
+-- TemplateLaws: the TLVs of a list, and the walk over them
+pub mod TemplateLaws
+-- FieldLaws: the fields of an object, and the walk over its rows
+pub mod FieldLaws
+-- ObjectLaws: the laws of a good object
+pub mod ObjectLaws
+-- MadeLaws: an object is accepted exactly where the encoder makes it
+pub mod MadeLaws
+-- DateLaws: dates, and the order of days
+pub mod DateLaws
+-- CommandLaws: commands, and the buffer that they are written to
+pub mod CommandLaws
 -- Twelve: document 01's worked examples
 pub mod Twelve

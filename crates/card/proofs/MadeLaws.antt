@@ -4,12 +4,11 @@ use mathlib.Core.Path.{_≡_, refl, sym, ap, ap₂, subst, _∙_}
 use mathlib.Core.Bool.{Bool, true, false, cond, not, _&&_, false≢true, and-eq-true-iff}
 use mathlib.Core.List.{List, [], _∷_, _++_, map, map-append, append-nil}
 use Prim.Native.Nat.{ℕ, zero, suc, _+_, _-_, _≤_, _<_}
-use native.Mathlib.Nat.{add-assoc}
 use native.Mathlib.Omega.{arith}
 use borrow.Author.Tests.{eq-eqb, le-leb, not-true, eqb-true, leb-true, ltb-true, ltb-false}
 use lib.Dec.{eqb, leb, ltb}
 use lib.ListN.{length, getD, take, drop, replicate, length-append, length-drop, length-map, take-append-drop, drop-of-length-le, List·getD-append, List·getD-eq-default}
-use lib.Seq.{take-length, take-all, length-take-le, drop-at, drop-drop, getD-drop}
+use lib.Seq.{take-length, take-all, drop-at, drop-drop, getD-drop}
 use Rattle.card.specs.Tlv.{tagSize, headerOf, onlyFrom, onlyOf, tagBytes, isTag, lengthBytes, fitsForm, encoded}
 use Rattle.card.specs.Object.{rowTag, least, greatest, rowsOf, mostFields, part, empty, absent, fieldFrom, fieldOf, fieldsFrom, fieldsAnswer, objectFrom, objectOf, partIn, bytesAt, fieldValue, Made, no-rows, left-out, given, valueIn}
 use Rattle.card.specs.declared.object.Kind.{Kind}
@@ -17,9 +16,9 @@ use Rattle.card.specs.declared.object.Kind.the-variants.{Signed, Unsigne
 use Rattle.card.specs.declared.object.Row.{Row}
 use Rattle.card.specs.declared.object.Part.{Part}
 use Rattle.card.specs.declared.object.Field.{Field}
-use Rattle.card.proofs.TlvLaws.{header-empty, header-inside}
+use Rattle.card.proofs.TlvLaws.{header-empty, place-inside, after-place, value-length}
 use Rattle.card.proofs.EncoderLaws.{form-read, read-back, read-back-value, written-back}
-use Rattle.card.proofs.FieldLaws.{field-cases, field-found, field-end}
+use Rattle.card.proofs.FieldLaws.{field-cases, field-found}
 use Rattle.card.proofs.ObjectLaws.{good}
 
 -- ---- rows with unlike tags
@@ -81,8 +80,8 @@ module _ (s v : List ℕ) (base : ℕ) (held : drop base s ≡ v) where
       let here : bytesAt s (part (base + (at + start)) len) ≡ value =
       rw (← drop-drop, held, ← drop-drop, e) (read-back-value form (rowTag r) value w (i .0) fits) in
       let after : drop (at + start + len) v ≡ w =
-      rw (add-assoc, ← drop-drop (start + len) at v, e) (drop-at (encoded form (rowTag r) value) w (start + len) (encoded-length form (rowTag r) value fits)) in
-      let later = fields-made (at + start + len) (i .2) m (field-end v base r at head h) after in
+      rw (← after-place v at start len, e) (drop-at (encoded form (rowTag r) value) w (start + len) (encoded-length form (rowTag r) value fits)) in
+      let later = fields-made (at + start + len) (i .2) m (place-inside v at head h) after in
       rw (← field-found v base r at head refl, le-leb (least r) len low, le-leb len (greatest r) high) (later .0, ap₂ _∷_ here (later .1))
 
 -- the bytes of the part with a tag, by the bytes of the parts
@@ -156,33 +155,33 @@ front-bytes w len bytes i = by-place (ltb i (length (take len w))) refl
         rw e (bytes i)
     by-place false p = rw (List·getD-eq-default (take len w) 0 (ltb-false i (length (take len w)) p)) (omega arith)
 
+-- the value v of an object, which begins at place base of it
 module _ (v : List ℕ) (base : ℕ) (bytes : (i : ℕ) → getD v i 0 < 256) where
   -- from a place on v is made for the rows
-  abbrev Read : List Row → ℕ → Type 0
-  Read rs at = (values : List (List ℕ)) × Made rs (drop at v) values
+  abbrev MadeFrom : List Row → ℕ → Type 0
+  MadeFrom rs at = (values : List (List ℕ)) × Made rs (drop at v) values
 
   -- one row more, given those after it
-  one-field : (r : Row) (rs : List Row) (at : ℕ) → at ≤ length v → ((next : ℕ) → next ≤ length v → fieldsFrom v base rs next .0 ≡ true → Read rs next)
-      → let f = fieldOf v base r at in f .ok ≡ true → fieldsFrom v base rs (f .next) .0 ≡ true → Read (r ∷ rs) at
+  one-field : (r : Row) (rs : List Row) (at : ℕ) → at ≤ length v → ((next : ℕ) → next ≤ length v → fieldsFrom v base rs next .0 ≡ true → MadeFrom rs next)
+      → let f = fieldOf v base r at in f .ok ≡ true → fieldsFrom v base rs (f .next) .0 ≡ true → MadeFrom (r ∷ rs) at
   one-field r rs at h rest =
-      field-cases v base r at (λ (f : Field). f .ok ≡ true → fieldsFrom v base rs (f .next) .0 ≡ true → Read (r ∷ rs) at)
+      field-cases v base r at (λ (f : Field). f .ok ≡ true → fieldsFrom v base rs (f .next) .0 ≡ true → MadeFrom (r ∷ rs) at)
       (λ o q. let later = rest at h q in ([] ∷ later .0, left-out o (later .1)))
       (λ tag start len nested e k o q.
-      let later = rest (at + start + len) (field-end v base r at e h) q in
+      let later = rest (at + start + len) (place-inside v at e h) q in
       let w = written-back (drop at v) (λ i. rw getD-drop (bytes (at + i))) e in
       let value = take len (drop start (drop at v)) in
-      let size : length value ≡ len = length-take-le len (drop start (drop at v)) (omega (arith, header-inside (drop at v) e, length-drop start (drop at v))) in
+      let size = value-length (drop at v) e in
       let fits = and-eq-true-iff (leb (least r) len) (leb len (greatest r)) .0 o in
       let form = start - length (tagBytes tag) in
-      let after : drop (at + start + len) v ≡ drop (start + len) (drop at v) = rw (drop-drop, add-assoc) in
-      let whole : encoded form (rowTag r) value ++ drop (at + start + len) v ≡ drop at v = rw (← k, ← w .3, after) (take-append-drop (start + len) (drop at v)) in (
+      let whole : encoded form (rowTag r) value ++ drop (at + start + len) v ≡ drop at v = rw (← k, ← w .3, ← after-place v at start len) (take-append-drop (start + len) (drop at v)) in (
         value ∷ later .0,
         subst (λ (l : List ℕ). Made (r ∷ rs) l (value ∷ later .0)) whole
             (given form value (rw size (leb-true (least r) len (fits .0))) (rw size (leb-true len (greatest r) (fits .1))) (rw size (w .1)) (later .1)),
       ))
 
   -- all of them
-  fields-read : (rs : List Row) (at : ℕ) → at ≤ length v → fieldsFrom v base rs at .0 ≡ true → Read rs at
+  fields-read : (rs : List Row) (at : ℕ) → at ≤ length v → fieldsFrom v base rs at .0 ≡ true → MadeFrom rs at
   unfolding fieldsFrom
   fields-read [] at h o = ([], subst (λ (l : List ℕ). Made [] l []) (sym (drop-of-length-le v {i = at} (omega (arith, eqb-true at (length v) o)))) no-rows)
   fields-read (r ∷ rs) at h o =
@@ -196,7 +195,6 @@ pub object-made : (k : Kind) (s : List ℕ) → ((i : ℕ) → getD s i 0 < 256)
 object-made k s bytes p =
     let g = good k s p in
     let v = take (g .len) (drop (g .start) s) in
-    let size : length v ≡ g .len = length-take-le (g .len) (drop (g .start) s) (omega (arith, g .ends, length-drop (g .start) s)) in
     let f = fields-read v (g .start) (front-bytes (drop (g .start) s) (g .len) (λ i. rw getD-drop (bytes (g .start + i)))) (rowsOf k) 0 (omega arith) (g .fields) in
     let w = written-back s bytes (g .whole) in
-    (g .start - length (tagBytes 0x53), v, f .0, f .1, rw size (w .1), sym (take-all (g .start + g .len) s (omega (arith, g .ends))) ∙ w .3)
+    (g .start - length (tagBytes 0x53), v, f .0, f .1, rw (value-length s (g .whole)) (w .1), sym (take-all (g .start + g .len) s (omega (arith, g .ends))) ∙ w .3)

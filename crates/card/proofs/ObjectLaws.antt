@@ -8,17 +8,18 @@ use native.Mathlib.Omega.{arith}
 use borrow.Author.Tests.{leb-true}
 use lib.Dec.{eqb, leb}
 use lib.ListN.{length, take, drop, replicate, length-drop}
-use lib.Seq.{take-append-le, drop-append-le, length-take-le}
+use lib.Seq.{take-append-le, drop-append-le}
 use Rattle.card.specs.Tlv.{headerOf, onlyOf}
 use Rattle.card.specs.Object.{mostFields, field, part, empty, rowsOf, fieldOf, fieldsFrom, fieldsAnswer, objectFrom, objectOf, partIn, bytesAt, fieldValue, allowed, rowIn}
 use Rattle.card.specs.declared.tlv.Header.{Header}
 use Rattle.card.specs.declared.tlv.Header.the-variants.{Whole, Malformed}
 use Rattle.card.specs.declared.object.Kind.{Kind}
+use Rattle.card.specs.declared.object.Kind.the-variants.{Signed, Unsigned, Fingers}
 use Rattle.card.specs.declared.object.Row.{Row}
 use Rattle.card.specs.declared.object.Part.{Part}
 use Rattle.card.specs.declared.object.Field.{Field}
-use Rattle.card.proofs.TlvLaws.{header-start, only-is}
-use Rattle.card.proofs.FieldLaws.{field-cases, field-end}
+use Rattle.card.proofs.TlvLaws.{place-inside, value-length, header-start, only-is}
+use Rattle.card.proofs.FieldLaws.{field-cases}
 
 -- ---- where the parts lie
 
@@ -35,7 +36,7 @@ field-inside : (v : List ℕ) (base : ℕ) (r : Row) (at : ℕ) → at ≤ lengt
     → Inside (base + length v) (fieldOf v base r at .part) × (fieldOf v base r at .next ≤ length v)
 field-inside v base r at h =
     field-cases v base r at (λ (f : Field). Inside (base + length v) (f .part) × (f .next ≤ length v)) (omega arith, h)
-    (λ tag start len nested e k. let i = field-end v base r at e h in (omega arith, i))
+    (λ tag start len nested e k. let i = place-inside v at e h in (omega arith, i))
 
 -- the same of the fields of the rows from a place on
 fields-inside : (v : List ℕ) (base : ℕ) (rs : List Row) (at : ℕ) → at ≤ length v → AllInside (base + length v) (fieldsFrom v base rs at .1)
@@ -61,9 +62,9 @@ answer-inside n false ps i = inside-empty mostFields n
 
 -- the value of the one TLV that a list is ends where the list ends
 value-end : (s : List ℕ) {tag start len : ℕ} {nested : Bool} → Whole tag nested start len ≡ onlyOf 0x53 s → start + length (take len (drop start s)) ≡ length s
-value-end s {start = start} {len} e =
-    let i = only-is 0x53 s e .2 in
-    omega (arith, i, length-take-le len (drop start s) (omega (arith, i, length-drop start s)))
+value-end s e =
+    let i = only-is 0x53 s e in
+    omega (arith, i .2, value-length s (i .0))
 
 -- every part of an object lies within it, of a malformed one too: there they are empty
 pub parts-inside : (k : Kind) (s : List ℕ) → AllInside (length s) (objectOf k s .1)
@@ -184,12 +185,35 @@ or-left : (x : Bool) → (x || false) ≡ true → x ≡ true
 or-left true e = refl
 or-left false e = e
 
--- a row that has to be there and has one length allows no other
-exact : (tag n m : ℕ) → allowed (field tag n n) m ≡ true → m ≡ n
-exact tag n m e =
-    let q = and-eq-true-iff (leb n m) (leb m n) .0 (or-left (leb n m && leb m n) e) in
-    omega (arith, leb-true n m (q .0), leb-true m n (q .1))
+-- the field with a tag that has to be there, in a good object: it has a length between the least and the greatest
+pub length-between : (k : Kind) (s : List ℕ) (tag low high : ℕ) → rowIn (rowsOf k) tag ≡ field tag low high → objectOf k s .0 ≡ 0
+    → let n = partIn (rowsOf k) (objectOf k s .1) tag .len in (low ≤ n) × (n ≤ high)
+length-between k s tag low high r p =
+    let n = partIn (rowsOf k) (objectOf k s .1) tag .len in
+    let fits : allowed (field tag low high) n ≡ true = rw r at (part-allowed k s tag p) in
+    let q = and-eq-true-iff (leb low n) (leb n high) .0 (or-left (leb low n && leb n high) fits) in
+    (leb-true low n (q .0), leb-true n high (q .1))
 
--- so where its row fixes the length and does not let it be absent, it has that length: `length-is Signed s 0x30 25 refl`
+-- so where its row fixes the length, it has that length
 pub length-is : (k : Kind) (s : List ℕ) (tag n : ℕ) → rowIn (rowsOf k) tag ≡ field tag n n → objectOf k s .0 ≡ 0 → partIn (rowsOf k) (objectOf k s .1) tag .len ≡ n
-length-is k s tag n r p = exact tag n (partIn (rowsOf k) (objectOf k s .1) tag .len) (rw r at (part-allowed k s tag p))
+length-is k s tag n r p = let b = length-between k s tag n n r p in omega (arith, b .0, b .1)
+
+-- the length of the field with a tag
+abbrev pub lengthIn : Kind → List ℕ → ℕ → ℕ
+lengthIn k s tag = partIn (rowsOf k) (objectOf k s .1) tag .len
+
+-- the lengths of the fields that have to be there, object by object
+pub signed-lengths : (s : List ℕ) → objectOf Signed s .0 ≡ 0
+    → (lengthIn Signed s 0x30 ≡ 25) × (lengthIn Signed s 0x34 ≡ 16) × (lengthIn Signed s 0x35 ≡ 8) × (1 ≤ lengthIn Signed s 0x3E) × (lengthIn Signed s 0x3E ≤ 2816)
+unfolding rowIn rowsOf
+signed-lengths s p =
+    let b = length-between Signed s 0x3E 1 2816 refl p in
+    (length-is Signed s 0x30 25 refl p, length-is Signed s 0x34 16 refl p, length-is Signed s 0x35 8 refl p, b .0, b .1)
+
+pub unsigned-lengths : (s : List ℕ) → objectOf Unsigned s .0 ≡ 0 → (lengthIn Unsigned s 0x30 ≡ 25) × (lengthIn Unsigned s 0x35 ≡ 8)
+unfolding rowIn rowsOf
+unsigned-lengths s p = (length-is Unsigned s 0x30 25 refl p, length-is Unsigned s 0x35 8 refl p)
+
+pub fingers-lengths : (s : List ℕ) → objectOf Fingers s .0 ≡ 0 → (1 ≤ lengthIn Fingers s 0xBC) × (lengthIn Fingers s 0xBC ≤ 862)
+unfolding rowIn rowsOf
+fingers-lengths s p = length-between Fingers s 0xBC 1 862 refl p

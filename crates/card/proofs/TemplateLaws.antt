@@ -4,25 +4,30 @@ use mathlib.Core.Path.{_≡_, refl, sym, ap, _∙_}
 use mathlib.Core.Bool.{Bool, true, false, cond, not, _&&_, _||_, and-true, and-false}
 use mathlib.Core.List.{List, [], _∷_}
 use Prim.Native.Nat.{ℕ, zero, suc, _+_, _-_, _≤_, _<_}
-use native.Mathlib.Nat.{add-assoc, add-sub-cancel-left}
+use native.Mathlib.Nat.{add-sub-cancel-left}
 use native.Mathlib.Omega.{arith}
 use borrow.Author.Tests.{eq-eqb, ne-eqb}
 use lib.Dec.{eqb, leb}
 use lib.ListN.{length, take, drop, length-drop}
-use lib.Seq.{drop-drop, length-take-le}
+use lib.Seq.{drop-drop}
 use Rattle.card.specs.Tlv.{headerOf, onlyFrom, onlyOf}
 use Rattle.card.specs.Template.{Tlv, tlv, broken, tlvsFrom, tlvsOf, every, wholeTo, lengthsOf, justOne, goodValue, goodFrom, templateOf, noted, notedAll, walked}
 use Rattle.card.specs.declared.tlv.Header.{Header}
 use Rattle.card.specs.declared.tlv.Header.the-variants.{Whole, Malformed}
 use Rattle.card.specs.declared.template.Walked.{Walked}
-use Rattle.card.proofs.TlvLaws.{header-empty, header-inside, header-start}
+use Rattle.card.proofs.TlvLaws.{header-empty, header-inside, header-start, after-place, value-length}
 
 -- ---- the TLVs of a list
 
--- nothing is left
+-- no bytes, no TLVs
+from-none : (n : ℕ) (s : List ℕ) → length s ≡ 0 → tlvsFrom n s ≡ []
+unfolding tlvsFrom
+from-none zero s e = refl
+from-none (suc n) s e = rw e
+
 pub tlvs-end : (s : List ℕ) → length s ≡ 0 → tlvsOf s ≡ []
-unfolding tlvsOf tlvsFrom
-tlvs-end s e = rw e
+unfolding tlvsOf
+tlvs-end s e = from-none (length s) s e
 
 -- bytes that are no TLV
 from-broken : (n : ℕ) (s : List ℕ) → 0 < length s → Malformed ≡ headerOf s → tlvsFrom (suc n) s ≡ broken ∷ []
@@ -38,12 +43,6 @@ from-whole n s e = let k : length s ≡ 0 → ⊥ = λ z. omega (arith, header-i
 -- what is left is shorter
 left-shorter : (s : List ℕ) {tag start len : ℕ} {nested : Bool} → Whole tag nested start len ≡ headerOf s → length (drop (start + len) s) < length s
 left-shorter s {start = start} {len} e = omega (arith, length-drop (start + len) s, header-inside s e, header-start s e)
-
--- no bytes, no TLVs
-from-none : (n : ℕ) (s : List ℕ) → length s ≡ 0 → tlvsFrom n s ≡ []
-unfolding tlvsFrom
-from-none zero s e = refl
-from-none (suc n) s e = rw e
 
 -- two counts of steps agree where they agree on what is left
 step : (h : Header) (n m : ℕ) (s : List ℕ) → h ≡ headerOf s → ((s′ : List ℕ) → length s′ < length s → tlvsFrom n s′ ≡ tlvsFrom m s′)
@@ -62,10 +61,12 @@ steps (suc n) (suc m) s a b = step (headerOf s) n m s refl (λ s′ l. steps n m
 one-more : (n : ℕ) → 0 < n → n ≡ suc (n - 1)
 one-more n h = omega arith
 
+-- the same of all steps: bytes that are no TLV
 pub tlvs-broken : (s : List ℕ) → 0 < length s → Malformed ≡ headerOf s → tlvsOf s ≡ broken ∷ []
 unfolding tlvsOf
 tlvs-broken s h e = ap (λ (n : ℕ). tlvsFrom n s) (one-more (length s) h) ∙ from-broken (length s - 1) s h e
 
+-- and a TLV, and what follows it
 pub tlvs-whole : (s : List ℕ) {tag start len : ℕ} {nested : Bool} → Whole tag nested start len ≡ headerOf s
     → tlvsOf s ≡ tlv tag nested (take len (drop start s)) ∷ tlvsOf (drop (start + len) s)
 unfolding tlvsOf
@@ -101,20 +102,24 @@ whole-next (suc d) s m e = let k : suc d - 1 ≡ d = omega arith in rw k (whole-
 
 -- ---- just one 4F
 
+-- a test that picks between two of the same
 stays : (k : Bool) (x : ℕ) → cond k x x ≡ x
 stays true x = refl
 stays false x = refl
 
+-- after others than one good 4F nothing changes
 noted-two : (ts : List Tlv) → notedAll 2 ts ≡ 2
 unfolding notedAll noted
 noted-two [] = refl
 noted-two (broken ∷ ts) = noted-two ts
 noted-two (tlv tag nested value ∷ ts) = rw (stays (eqb tag 0x4F) 2) (noted-two ts)
 
+-- no length
 abbrev none : List ℕ → Bool
 none [] = true
 none (n ∷ ns) = false
 
+-- after one, none may follow
 noted-one : (ts : List Tlv) → eqb (notedAll 1 ts) 1 ≡ none (lengthsOf 0x4F ts)
 unfolding notedAll noted lengthsOf
 noted-one [] = refl
@@ -126,11 +131,13 @@ noted-one (tlv tag nested value ∷ ts) = by-tag (eqb tag 0x4F) (noted-one ts)
     by-tag true p = rw (noted-two ts)
     by-tag false p = p
 
+-- just one: the first is good, and none follows
 just-cons : (n : ℕ) (ns : List ℕ) → justOne (n ∷ ns) ≡ (leb 1 n && leb n 16) && none ns
 unfolding justOne
 just-cons n [] = sym (and-true (leb 1 n && leb n 16))
 just-cons n (m ∷ ns) = sym (and-false (leb 1 n && leb n 16))
 
+-- from the start: what the code notes is 1 exactly where there is just one, of 1 to 16 bytes
 pub noted-none : (ts : List Tlv) → eqb (notedAll 0 ts) 1 ≡ justOne (lengthsOf 0x4F ts)
 unfolding notedAll noted lengthsOf justOne
 noted-none [] = refl
@@ -150,8 +157,9 @@ noted-none (tlv tag nested value ∷ ts) = by-tag (eqb tag 0x4F) (noted-none ts)
 
 -- what a walk finds where the bytes are not whole TLVs
 abbrev pub none-found : Walked
-none-found = record { whole = false; ids = 0 }
+none-found = record { whole = false; aids = 0 }
 
+-- so it is
 walked-broken : (d n : ℕ) (s : List ℕ) → wholeTo d s ≡ false → walked d n s ≡ none-found
 unfolding walked
 walked-broken d n s e = rw e
@@ -159,7 +167,7 @@ walked-broken d n s e = rw e
 -- the bytes from place at on, in the code's terms
 module _ (s : List ℕ) (d n at : ℕ) where
   -- nothing is left
-  pub walk-end : at ≡ length s → walked d n (drop at s) ≡ record { whole = true; ids = n }
+  pub walk-end : at ≡ length s → walked d n (drop at s) ≡ record { whole = true; aids = n }
   unfolding walked notedAll
   walk-end h = let e : length (drop at s) ≡ 0 = omega (arith, length-drop at s) in rw (whole-end d (drop at s) e, tlvs-end (drop at s) e)
 
@@ -171,31 +179,25 @@ module _ (s : List ℕ) (d n at : ℕ) where
       walked-broken d n (drop at s) (rw e (ne-eqb _ _ k))
 
   module _ (h : at < length s) (m : d ≡ 0 → ⊥) where
-    deeper : d ≡ suc (d - 1)
-    deeper = omega (arith, m)
-
     -- bytes that are no TLV
     pub walk-bad : Malformed ≡ headerOf (drop at s) → walked d n (drop at s) ≡ none-found
-    walk-bad e = walked-broken d n (drop at s) (rw deeper (whole-broken (d - 1) (drop at s) (omega (arith, length-drop at s)) e))
+    walk-bad e = walked-broken d n (drop at s) (rw (one-more d (omega (arith, m))) (whole-broken (d - 1) (drop at s) (omega (arith, length-drop at s)) e))
 
     module _ {tag start len : ℕ} {nested : Bool} (e : Whole tag nested start len ≡ headerOf (drop at s)) where
-      -- its value, and what follows it
+      -- its value
       inner-is : take len (drop start (drop at s)) ≡ take (at + start + len - (at + start)) (drop (at + start) s)
       inner-is = rw (drop-drop, add-sub-cancel-left)
 
-      after-is : drop (start + len) (drop at s) ≡ drop (at + start + len) s
-      after-is = rw (drop-drop, add-assoc)
-
+      -- it and what follows it are whole TLVs; the 4Fs noted
       whole-is : wholeTo d (drop at s)
           ≡ (not nested || wholeTo (d - 1) (take (at + start + len - (at + start)) (drop (at + start) s))) && wholeTo d (drop (at + start + len) s)
-      whole-is = rw (← inner-is, ← after-is) (whole-next d (drop at s) m e)
+      whole-is = rw (← inner-is, ← after-place s at start len) (whole-next d (drop at s) m e)
 
       noted-is : notedAll n (tlvsOf (drop at s)) ≡ notedAll (noted n tag len) (tlvsOf (drop (at + start + len) s))
       unfolding notedAll
       noted-is =
-          let value-length : length (take len (drop start (drop at s))) ≡ len =
-          length-take-le len (drop start (drop at s)) (omega (arith, header-inside (drop at s) e, length-drop start (drop at s))) in
-          ap (notedAll n) (tlvs-whole (drop at s) e) ∙ rw after-is (ap (λ (x : ℕ). notedAll (noted n tag x) (tlvsOf (drop (at + start + len) s))) value-length)
+          ap (notedAll n) (tlvs-whole (drop at s) e)
+          ∙ rw (after-place s at start len) (ap (λ (x : ℕ). notedAll (noted n tag x) (tlvsOf (drop (at + start + len) s))) (value-length (drop at s) e))
 
       -- it is plain, or its value is whole TLVs to the levels left
       pub walk-past : (not nested || wholeTo (d - 1) (take (at + start + len - (at + start)) (drop (at + start) s))) ≡ true
@@ -209,19 +211,22 @@ module _ (s : List ℕ) (d n at : ℕ) where
 
 -- what the walk over a nested value says of it
 module _ (d : ℕ) (v : List ℕ) {nested : Bool} where
+  -- it need not be walked
   pub plain-passes : nested ≡ false → (not nested || wholeTo d v) ≡ true
   plain-passes k = rw k
 
+  -- it is whole
   pub nested-passes : {w : Walked} → nested ≡ true → w ≡ walked d 0 v → w .whole ≡ true → (not nested || wholeTo d v) ≡ true
   unfolding walked
   nested-passes k e p = rw k (sym (ap (λ (x : Walked). x .whole) e) ∙ p)
 
+  -- it is not
   pub nested-fails : {w : Walked} → nested ≡ true → w ≡ walked d 0 v → w .whole ≡ false → (not nested || wholeTo d v) ≡ false
   unfolding walked
   nested-fails k e p = rw k (sym (ap (λ (x : Walked). x .whole) e) ∙ p)
 
 -- what the walk over the value of 61 finds decides
-pub good-is : (v : List ℕ) {w : Walked} → w ≡ walked 3 0 v → goodValue v ≡ w .whole && eqb (w .ids) 1
+pub good-is : (v : List ℕ) {w : Walked} → w ≡ walked 3 0 v → goodValue v ≡ w .whole && eqb (w .aids) 1
 unfolding goodValue walked
 good-is v e = rw e (by-whole (wholeTo 3 v))
   where

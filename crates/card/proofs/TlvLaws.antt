@@ -4,9 +4,11 @@ use mathlib.Core.Path.{_≡_, refl, sym, ap, _∙_}
 use mathlib.Core.Bool.{Bool, true, false, cond, _&&_, and-eq-true-iff}
 use mathlib.Core.List.{List, [], _++_}
 use Prim.Native.Nat.{ℕ, _+_, _*_, _%_, _≤_, _<_}
+use native.Mathlib.Nat.{add-assoc}
 use native.Mathlib.Omega.{arith}
 use borrow.Author.Tests.{eqb-true, ltb-false, eqb-false, le-ltb, ne-eqb}
-use lib.ListN.{length, getD, length-append, List·getD-append}
+use lib.ListN.{length, getD, take, drop, length-append, length-drop, List·getD-append}
+use lib.Seq.{drop-drop, length-take-le}
 use lib.Dec.{ltb, eqb}
 use Rattle.card.specs.Tlv.{tagSize, tagNumber, nestedBit, lengthSize, lengthOf, endingOf, afterTag, headerOf, onlyFrom, onlyOf}
 use Rattle.card.specs.declared.tlv.Header.{Header}
@@ -15,13 +17,13 @@ use Rattle.card.specs.declared.tlv.Header.the-variants.{Whole, Malformed
 -- ---- the parts of a header
 
 -- f of the first three bytes
-abbrev pub front : (ℕ → ℕ → ℕ → ℕ) → List ℕ → ℕ
-front f s = f (getD s 0 0) (getD s 1 0) (getD s 2 0)
+abbrev pub ofThree : (ℕ → ℕ → ℕ → ℕ) → List ℕ → ℕ
+ofThree f s = f (getD s 0 0) (getD s 1 0) (getD s 2 0)
 
 -- s begins with a whole TLV, whose tag takes t bytes and whose length takes l
 pub record Parts (s : List ℕ) (t l tag : ℕ) (nested : Bool) (len : ℕ) : Type 0 where
-  pub size : front tagSize s ≡ t
-  pub number : front tagNumber s ≡ tag
+  pub size : ofThree tagSize s ≡ t
+  pub number : ofThree tagNumber s ≡ tag
   pub bit : nestedBit (getD s 0 0) ≡ nested
   pub form : lengthSize (getD s t 0) ≡ l
   pub count : lengthOf (getD s t 0) (getD s (t + 1) 0) (getD s (t + 2) 0) ≡ len
@@ -46,14 +48,14 @@ picked false false false tag′ k′ start′ len′ e = (refl, refl, refl, (cc)
 
 -- and the other way: a header that is whole has these parts
 pub parts : (s : List ℕ) {tag start len : ℕ} {nested : Bool} → Whole tag nested start len ≡ headerOf s
-    → (front tagSize s + lengthSize (getD s (front tagSize s) 0) ≡ start)
-    × Parts s (front tagSize s) (lengthSize (getD s (front tagSize s) 0)) tag nested len
+    → (ofThree tagSize s + lengthSize (getD s (ofThree tagSize s) 0) ≡ start)
+    × Parts s (ofThree tagSize s) (lengthSize (getD s (ofThree tagSize s) 0)) tag nested len
 unfolding headerOf afterTag endingOf
 parts s {tag} {start} {len} {nested} e =
-    let t = front tagSize s in
+    let t = ofThree tagSize s in
     let l = lengthSize (getD s t 0) in
     let n = lengthOf (getD s t 0) (getD s (t + 1) 0) (getD s (t + 2) 0) in
-    let p = picked (eqb t 0) (eqb l 0) (ltb (length s) (t + l + n)) (front tagNumber s) (nestedBit (getD s 0 0)) (t + l) n e in (
+    let p = picked (eqb t 0) (eqb l 0) (ltb (length s) (t + l + n)) (ofThree tagNumber s) (nestedBit (getD s 0 0)) (t + l) n e in (
       p .5,
       record {
         size = refl;
@@ -77,6 +79,18 @@ header-empty = refl
 -- it ends within the list
 pub header-inside : (s : List ℕ) {tag start len : ℕ} {nested : Bool} → Whole tag nested start len ≡ headerOf s → start + len ≤ length s
 header-inside s e = let p = parts s e in omega arith
+
+-- and so does the TLV at a place of the list
+pub place-inside : (s : List ℕ) (at : ℕ) {tag start len : ℕ} {nested : Bool} → Whole tag nested start len ≡ headerOf (drop at s) → at ≤ length s → at + start + len ≤ length s
+place-inside s at e h = omega (arith, header-inside (drop at s) e, length-drop at s)
+
+-- what stands after it there
+pub after-place : (s : List ℕ) (at start len : ℕ) → drop (start + len) (drop at s) ≡ drop (at + start + len) s
+after-place s at start len = rw (drop-drop, add-assoc)
+
+-- its value has as many bytes as the length says
+pub value-length : (s : List ℕ) {tag start len : ℕ} {nested : Bool} → Whole tag nested start len ≡ headerOf s → length (take len (drop start s)) ≡ len
+value-length s {start = start} {len} e = length-take-le len (drop start s) (omega (arith, header-inside s e, length-drop start s))
 
 -- its value has a tag byte and a length byte at least before it
 pub header-two : (s : List ℕ) {tag start len : ℕ} {nested : Bool} → Whole tag nested start len ≡ headerOf s → 1 < start
@@ -117,12 +131,12 @@ length-cases a b c P u v w h = go (ltb a 0x80) (eqb a 0x81) (eqb a 0x82) refl re
 -- ---- what stands after a TLV
 
 -- a list that begins with the bytes of a tag begins with that tag
-pub tag-agree : (s s′ : List ℕ) → 0 < front tagSize s → ((i : ℕ) → i < front tagSize s → getD s′ i 0 ≡ getD s i 0)
-    → (front tagSize s′ ≡ front tagSize s) × (front tagNumber s′ ≡ front tagNumber s)
+pub tag-agree : (s s′ : List ℕ) → 0 < ofThree tagSize s → ((i : ℕ) → i < ofThree tagSize s → getD s′ i 0 ≡ getD s i 0)
+    → (ofThree tagSize s′ ≡ ofThree tagSize s) × (ofThree tagNumber s′ ≡ ofThree tagNumber s)
 unfolding tagSize tagNumber
 tag-agree s s′ =
     tag-cases (getD s 0 0) (getD s 1 0) (getD s 2 0)
-    (λ k n. ((i : ℕ) → i < k → getD s′ i 0 ≡ getD s i 0) → (front tagSize s′ ≡ k) × (front tagNumber s′ ≡ n))
+    (λ k n. ((i : ℕ) → i < k → getD s′ i 0 ≡ getD s i 0) → (ofThree tagSize s′ ≡ k) × (ofThree tagNumber s′ ≡ n))
     (λ p same. simp (same 0 (omega arith), p) (refl, refl))
     (λ p q same. simp (same 0 (omega arith), same 1 (omega arith), p, q) (refl, refl))
     (λ p q r same. simp (same 0 (omega arith), same 1 (omega arith), same 2 (omega arith), p, q, r) (refl, refl))
@@ -138,7 +152,7 @@ length-agree a b c b′ c′ =
 pub header-agree : (s s′ : List ℕ) {tag start len : ℕ} {nested : Bool} → Whole tag nested start len ≡ headerOf s
     → ((i : ℕ) → i < start → getD s′ i 0 ≡ getD s i 0) → start + len ≤ length s′ → headerOf s′ ≡ Whole tag nested start len
 header-agree s s′ {tag} {start} {len} {nested} e same fits =
-    let t = front tagSize s in
+    let t = ofThree tagSize s in
     let l = lengthSize (getD s t 0) in
     let at : t + l ≡ start = parts s e .0 in
     let p : Parts s t l tag nested len = parts s e .1 in
@@ -174,6 +188,7 @@ kept : (k : Bool) (x : Header) {tag start len : ℕ} {nested : Bool} → Whole t
 kept true x e = (refl, e)
 kept false x e = let h : _≡_ {A = ℕ} 0 1 = cc in absurd (omega arith)
 
+-- by the header at the front
 only-from : (h : Header) (wanted : ℕ) (s : List ℕ) {tag start len : ℕ} {nested : Bool} → Whole tag nested start len ≡ onlyFrom h wanted s
     → (Whole tag nested start len ≡ h) × (tag ≡ wanted) × (start + len ≡ length s)
 unfolding onlyFrom
@@ -187,7 +202,7 @@ only-from (Whole t b a n) wanted s {tag} {start} {len} {nested} e =
     let en : len ≡ n = cc in
     (f, rw et (eqb-true t wanted (q .0)), rw (ea, en) (eqb-true (a + n) (length s) (q .1)))
 
--- it is the TLV at the front, has the tag, and ends where the list ends
+-- it is the TLV at the ofThree, has the tag, and ends where the list ends
 pub only-is : (wanted : ℕ) (s : List ℕ) {tag start len : ℕ} {nested : Bool} → Whole tag nested start len ≡ onlyOf wanted s
     → (Whole tag nested start len ≡ headerOf s) × (tag ≡ wanted) × (start + len ≡ length s)
 unfolding onlyOf

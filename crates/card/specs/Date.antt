@@ -29,10 +29,11 @@ realDate n =
 
 -- ---- field 35
 
--- Byte i of s is an ASCII digit, and the digit's value, its low four bits.
+-- Byte i of s is an ASCII digit, 30 to 39.
 unfoldable pub digitAt : List ℕ → ℕ → Bool
 digitAt s i = leb 0x30 (getD s i 0) && leb (getD s i 0) 0x39
 
+-- The number that eight ASCII digits spell: the value of each is its low four bits.
 unfoldable pub spelled : List ℕ → ℕ
 spelled s = number 10 8 (λ i. getD s i 0 % 16)
 

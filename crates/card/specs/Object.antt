@@ -100,10 +100,12 @@ mostFields = 5
 unfoldable pub fieldsAnswer : Bool × List Part → ℕ × List Part
 fieldsAnswer f = cond (f .0) (0, f .1 ++ replicate (mostFields - length (f .1)) empty) (20, replicate mostFields empty)
 
+-- By the header of the one TLV 53 that s is: its value is handed to the fields, and parts are those of the whole.
 unfoldable pub objectFrom : Header → Kind → List ℕ → ℕ × List Part
 objectFrom Malformed k s = (20, replicate mostFields empty)
 objectFrom (Whole tag nested start len) k s = fieldsAnswer (fieldsFrom (take len (drop start s)) start (rowsOf k) 0)
 
+-- What the object reader gives of the object s.
 unfoldable pub objectOf : Kind → List ℕ → ℕ × List Part
 objectOf k s = objectFrom (onlyOf 0x53 s) k s
 

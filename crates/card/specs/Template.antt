@@ -69,6 +69,7 @@ justOne (n ∷ m ∷ ns) = false
 unfoldable pub goodValue : List ℕ → Bool
 goodValue v = wholeTo (4 - 1) v && justOne (lengthsOf 0x4F (tlvsOf v))
 
+-- By the header of the one TLV 61 that s is.
 unfoldable pub goodFrom : Header → List ℕ → Bool
 goodFrom Malformed s = false
 goodFrom (Whole tag nested start len) s = goodValue (take len (drop start s))
@@ -96,4 +97,4 @@ notedAll n (tlv tag nested value ∷ ts) = notedAll (noted n tag (length value))
 
 -- What a walk of s finds, d levels deep, the 4Fs met before it being n.
 unfoldable pub walked : ℕ → ℕ → List ℕ → Walked
-walked d n s = record { whole = wholeTo d s; ids = cond (wholeTo d s) (notedAll n (tlvsOf s)) 0 }
+walked d n s = record { whole = wholeTo d s; aids = cond (wholeTo d s) (notedAll n (tlvsOf s)) 0 }

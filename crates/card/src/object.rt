@@ -69,6 +69,7 @@ pub struct Object {
     pub answer: ObjectAnswer,
 }
 
+// The rows of an object, in document 01's order.
 fn layout_of(kind: Kind) -> Layout
     ensures is { λ r. ⌜ take (r .n) (r .rows) ≡ rowsOf kind ⌝ }
     ensures most { λ r. ⌜ r .n ≤ mostFields ⌝ }

@@ -23,14 +23,14 @@ impl TemplateAnswer {
     }
 }
 
-// The 4Fs met so far, with one TLV more: 0 none, 1 just one, of 1 to 16 bytes, 2 any others.
-fn note(ids: usize, tag: usize, len: usize) -> usize
-    ensures { λ r. ⌜ r ≡ noted ids tag len ⌝ }
+// The 4Fs (application identifiers) met so far, with one TLV more: 0 none, 1 just one, of 1 to 16 bytes, 2 any others.
+fn note(aids: usize, tag: usize, len: usize) -> usize
+    ensures { λ r. ⌜ r ≡ noted aids tag len ⌝ }
 {
     if tag != 0x4F {
-        return ids;
+        return aids;
     }
-    if (ids == 0) & (1 <= len) & (len <= 16) {
+    if (aids == 0) & (1 <= len) & (len <= 16) {
         1
     } else {
         2
@@ -40,19 +40,19 @@ fn note(ids: usize, tag: usize, len: usize) -> usize
 // What a walk finds: whether the bytes are whole TLVs to the depth left, and the 4Fs that they directly hold, by note; 0 where they are not whole.
 pub(crate) struct Walked {
     pub whole: bool,
-    pub ids: usize,
+    pub aids: usize,
 }
 
 const BROKEN: Walked = Walked {
     whole: false,
-    ids: 0,
+    aids: 0,
 };
 
 // The TLVs of s, one after another; each nested value is walked in turn, with a level less left.
 fn walk(s: &[u8], depth: usize) -> Walked
     ensures { λ r. ⌜ r ≡ walked depth 0 (now (s .entry)) ⌝ }
 {
-    let mut ids: usize = 0;
+    let mut aids: usize = 0;
     let mut at: usize = 0;
     while at < s.len() {
         if depth == 0 {
@@ -75,10 +75,10 @@ fn walk(s: &[u8], depth: usize) -> Walked
                 return BROKEN;
             }
         }
-        ids = note(ids, tag, len);
+        aids = note(aids, tag, len);
         at = e;
     }
-    Walked { whole: true, ids }
+    Walked { whole: true, aids }
 }
 
 // Whether s is a template as document 01 asks. 61 is depth 1, so that three levels are left for its value.
@@ -93,7 +93,7 @@ pub fn template(s: &[u8]) -> TemplateAnswer
             len,
         } => {
             let found = walk(bytes::part(s, start, len), 3);
-            if found.whole & (found.ids == 1) {
+            if found.whole & (found.aids == 1) {
                 TemplateAnswer::Accepted
             } else {
                 TemplateAnswer::Malformed

@@ -32,62 +32,62 @@ fn print_answer(answer: CommandAnswer, out: &[u8]) {
     }
 }
 
-// SELECT of the AID b.
+// SELECT of the AID b, into a buffer.
+fn select_into(b: &[u8], out: &mut [u8]) {
+    let answer = command::select(b, out);
+    print_answer(answer, out);
+}
+
+// GET DATA of an object, into a buffer; the line spells no bytes.
+fn get_data_into(kind: Kind, b: &[u8], out: &mut [u8]) {
+    if b.len() != 0 {
+        print::no_vector();
+        return;
+    }
+    let answer = command::get_data(kind, out);
+    print_answer(answer, out);
+}
+
+// GET RESPONSE with the one byte of b, into a buffer.
+fn get_response_into(b: &[u8], out: &mut [u8]) {
+    if b.len() != 1 {
+        print::no_vector();
+        return;
+    }
+    let answer = command::get_response(b[0], out);
+    print_answer(answer, out);
+}
+
+// Buffers with room for each command, and a byte or two more.
 fn select(b: &[u8]) {
     let mut out = [0xFFu8; 24];
-    let answer = command::select(b, &mut out);
-    print_answer(answer, &out);
+    select_into(b, &mut out);
 }
 
-// The same into a buffer of 14 bytes.
+fn get_data(kind: Kind, b: &[u8]) {
+    let mut out = [0xFFu8; 12];
+    get_data_into(kind, b, &mut out);
+}
+
+fn get_response(b: &[u8]) {
+    let mut out = [0xFFu8; 6];
+    get_response_into(b, &mut out);
+}
+
+// Buffers that are too short: for an AID of more than 8 bytes, and for every GET DATA and GET RESPONSE.
 fn select_short(b: &[u8]) {
     let mut out = [0xFFu8; 14];
-    let answer = command::select(b, &mut out);
-    print_answer(answer, &out);
+    select_into(b, &mut out);
 }
 
-// GET DATA of an object; the line spells no bytes.
-fn get_data(kind: Kind, b: &[u8]) {
-    if b.len() != 0 {
-        print::no_vector();
-        return;
-    }
-    let mut out = [0xFFu8; 12];
-    let answer = command::get_data(kind, &mut out);
-    print_answer(answer, &out);
-}
-
-// GET DATA of the signed object into a buffer of 10 bytes; the line spells no bytes.
 fn get_data_short(b: &[u8]) {
-    if b.len() != 0 {
-        print::no_vector();
-        return;
-    }
     let mut out = [0xFFu8; 10];
-    let answer = command::get_data(Kind::Signed, &mut out);
-    print_answer(answer, &out);
+    get_data_into(Kind::Signed, b, &mut out);
 }
 
-// GET RESPONSE with the one byte of b.
-fn get_response(b: &[u8]) {
-    if b.len() != 1 {
-        print::no_vector();
-        return;
-    }
-    let mut out = [0xFFu8; 6];
-    let answer = command::get_response(b[0], &mut out);
-    print_answer(answer, &out);
-}
-
-// The same into a buffer of 4 bytes.
 fn get_response_short(b: &[u8]) {
-    if b.len() != 1 {
-        print::no_vector();
-        return;
-    }
     let mut out = [0xFFu8; 4];
-    let answer = command::get_response(b[0], &mut out);
-    print_answer(answer, &out);
+    get_response_into(b, &mut out);
 }
 
 // What status_of says of b.

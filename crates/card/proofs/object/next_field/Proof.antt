@@ -6,8 +6,8 @@ use borrow.Author.Needs.{needs}
 use lib.ListN.{length, drop}
 use Rattle.card.specs.Tlv.{headerOf}
 use Rattle.card.specs.declared.tlv.Header.the-variants.{Whole}
-use Rattle.card.proofs.TlvLaws.{known}
-use Rattle.card.proofs.FieldLaws.{field-none, field-other, field-found, field-end}
+use Rattle.card.proofs.TlvLaws.{known, place-inside}
+use Rattle.card.proofs.FieldLaws.{field-none, field-other, field-found}
 use Rattle.card.proofs.object.next_field.Statement.{statement}
 use Rattle.card.proofs.object.next_field.Tie as tie
 
@@ -20,7 +20,7 @@ returns c = let a = c .before .before .before .before .before .before .before .b
 
 -- the field ends within v
 field-fits : (c : tie.After-tag) → let x = c .tag .given .0 in c .before .before .before .before .before .args .at + x .1 .1 .0 + x .1 .1 .1 .0 ≤ length (c .before .before .before .before .before .args .v .now)
-field-fits c = let a = c .before .before .before .before .before .args in field-end (a .v .now) (a .base) (a .row) (a .at) (whole-is c) (c .before .before .before .before .before .pre .0)
+field-fits c = let a = c .before .before .before .before .before .args in place-inside (a .v .now) (a .at) (whole-is c) (c .before .before .before .before .before .pre .0)
 
 returns-2 : tie.Need-returns-2
 returns-2 c = let a = c .before .before .before .before .before .before .before .before .before .before .args in (field-found (a .v .now) (a .base) (a .row) (a .at) (whole-is (c .before .before .before .before .before)) (c .before .before .if1 .left), field-fits (c .before .before .before .before .before))

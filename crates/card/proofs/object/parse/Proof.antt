@@ -2,12 +2,11 @@
 use mathlib.Core.Path.{_≡_, sym, ap, _∙_}
 use native.Mathlib.Omega.{arith}
 use borrow.Author.Needs.{needs}
-use lib.ListN.{length, drop, length-drop}
-use lib.Seq.{length-take-le}
+use lib.ListN.{length}
 use Rattle.card.specs.Tlv.{onlyOf}
 use Rattle.card.specs.Object.{objectFrom, objectOf}
 use Rattle.card.specs.declared.tlv.Header.the-variants.{Whole}
-use Rattle.card.proofs.TlvLaws.{only-is}
+use Rattle.card.proofs.TlvLaws.{value-length, only-is}
 use Rattle.card.proofs.object.parse.Statement.{statement}
 use Rattle.card.proofs.object.parse.Tie as tie
 
@@ -20,10 +19,9 @@ part-requires c κs = omega (arith, only-is 0x53 (c .before .before .before .bef
 
 fields-requires : tie.Need-fields-requires
 fields-requires c κs =
-    let x = c .before .before .start .given .0 .1 .1 in
     let s = c .before .before .before .before .before .before .args .s .now in
-    let e = only-is 0x53 s (whole-is (c .before .before)) .2 in
-    omega (arith, e, ap length (c .part .ensures), length-take-le (x .1 .0) (drop (x .0) s) (omega (arith, e, length-drop (x .0) s)))
+    let e = only-is 0x53 s (whole-is (c .before .before)) in
+    omega (arith, e .2, ap length (c .part .ensures), value-length s (e .0))
 
 returns : tie.Need-returns
 unfolding objectOf objectFrom

@@ -8,11 +8,11 @@ use borrow.Author.Needs.{needs}
 use borrow.Author.Tests.{not-false, not-true}
 use borrow.Fn.Kinds.{In}
 use borrow.Fn.PlainCycle.{Measures, is, falls, and}
-use lib.ListN.{length, drop, length-drop}
+use lib.ListN.{length, drop}
 use Rattle.card.specs.Tlv.{headerOf}
 use Rattle.card.specs.Template.{walked}
 use Rattle.card.specs.declared.tlv.Header.the-variants.{Whole}
-use Rattle.card.proofs.TlvLaws.{header-inside, header-start, known}
+use Rattle.card.proofs.TlvLaws.{place-inside, header-start, known}
 use Rattle.card.proofs.TemplateLaws.{walk-end, walk-deep, walk-bad, walk-past, walk-broken, plain-passes, nested-passes, nested-fails}
 use Rattle.card.proofs.template.walk.Reads as walk
 use Rattle.card.proofs.template.walk.Kinds as walk-kinds
@@ -33,10 +33,10 @@ abbrev walk-below : ℕ → In 1 walk-kinds.ps
 walk-below t = and 1 walk-kinds.ps (falls 1 walk-kinds.ps _<_ μ-walk t) walk.Pre
 
 abbrev Inv-loop : walk-lts.InvT-loop
-Inv-loop s depth ids₀ at₀ ids at = (at ≤ length s) × (walked depth 0 s ≡ walked depth ids (drop at s))
+Inv-loop s depth aids₀ at₀ aids at = (at ≤ length s) × (walked depth 0 s ≡ walked depth aids (drop at s))
 
 abbrev μ-loop : walk-lts.MeasureT-loop
-μ-loop s depth ids₀ at₀ ids at = length s - at
+μ-loop s depth aids₀ at₀ aids at = length s - at
 
 -- a place in the walk where the TLV at `at` is whole
 abbrev Met : ℕ → Type 0
@@ -58,7 +58,7 @@ met-end : (t : ℕ) (c : Met t) → let x = c .before .tag .given .0 .1 .1 in le
 met-end t c =
     let at = c .before .before .before .before .before .before .before in
     let s = at .before .before .args .s .now in
-    omega (arith, header-inside (drop (at .loop .at) s) (met t c), length-drop (at .loop .at) s)
+    place-inside s (at .loop .at) (met t c) (at .loop .inv .0)
 
 met-start : (t : ℕ) (c : Met t) → 0 < c .before .tag .given .0 .1 .1 .0
 met-start t c =

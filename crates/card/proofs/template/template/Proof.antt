@@ -20,7 +20,7 @@ part-requires : tie.Need-part-requires
 part-requires c κs = omega (arith, only-is 0x61 (c .before .before .before .before .before .args .s .now) (whole-is (c .before)) .2)
 
 -- after the walk its two findings decide
-decided : (c : tie.After-walk) → templateOf (c .before .before .before .before .before .before .before .args .s .now) ≡ cond (c .walk .result .whole && eqb (c .walk .result .ids) 1) 0 19
+decided : (c : tie.After-walk) → templateOf (c .before .before .before .before .before .before .before .args .s .now) ≡ cond (c .walk .result .whole && eqb (c .walk .result .aids) 1) 0 19
 unfolding templateOf goodFrom
 decided c = rw (← whole-is (c .before .before .before), good-is _ (c .walk .ensures ∙ ap (walked _ 0) (c .before .part .ensures)))
 
