@@ -1,60 +1,19 @@
--- Commands in a lent buffer: what a run of stores has written, how long each command is, and which bytes stay as they were.
+-- Commands: how long each is, and what its answer says of the buffer.
 -- Assumes nothing.
-use mathlib.Core.Path.{_≡_, refl, ap, _∙_}
+use mathlib.Core.Path.{_≡_, refl}
 use mathlib.Core.Bool.{false, and-eq-true-iff}
-use mathlib.Core.List.{List, [], _∷_, _++_}
-use Prim.Native.Nat.{ℕ, _+_, _-_, _≤_, _<_}
-use native.Mathlib.Nat.{zero-add}
+use mathlib.Core.List.{List, [], _∷_}
+use Prim.Native.Nat.{ℕ, _+_, _≤_, _<_}
 use native.Mathlib.Omega.{arith}
 use borrow.Author.Tests.{leb-true, not-false, lt-ltb, le-ltb, ne-eqb}
 use lib.Dec.{leb}
-use lib.ListN.{length, getD, take, drop, length-append, length-drop, List·getD-append}
-use lib.Seq.{take-append-seam, drop-append-add, drop-drop, getD-append-add, getD-drop}
-use Rattle.card.specs.Range.{written}
+use lib.ListN.{length, length-append}
+use Rattle.card.specs.Range.{front}
 use Rattle.card.specs.Refusal.{refusalOf}
 use Rattle.card.specs.Object.{objectTag}
-use Rattle.card.specs.Command.{selectBytes, getDataBytes, getResponseBytes, front, stored, commandOf, aidRefused, tooShort, selectOf, getDataOf, getResponseOf}
+use Rattle.card.specs.Command.{selectBytes, getDataBytes, getResponseBytes, commandOf, aidRefused, tooShort, selectOf, getDataOf, getResponseOf}
 use Rattle.card.specs.declared.object.Kind.{Kind}
 use Rattle.card.specs.declared.object.Kind.the-variants.{Signed, Unsigned, Fingers}
-use Rattle.card.proofs.RangeLaws.{listOf-is}
-
--- ---- storing
-
--- bytes stored from the first place on stand in front
-pub stored-first : (d s : List ℕ) → stored d 0 s ≡ front s d
-unfolding front stored
-stored-first d s = rw zero-add
-
--- bytes stored right after the front make the front longer
-pub stored-next : (p s d : List ℕ) {l : List ℕ} {n : ℕ} → l ≡ front p d → n ≡ length p → stored l n s ≡ front (p ++ s) d
-unfolding front stored
-stored-next p s d e k = rw (e, k, take-append-seam, drop-append-add, drop-drop, length-append)
-
--- a list written whole is stored
-pub written-stored : (d s : List ℕ) (at : ℕ) → written d at (length s) (λ j. getD s (0 + j) 0) ≡ stored d at s
-unfolding written stored
-written-stored d s at =
-    ap (λ (t : List ℕ). take at d ++ t ++ drop (at + length s) d)
-    (listOf-is (length s) (λ j. getD s (0 + j) 0) s refl (λ i b. ap (λ (j : ℕ). getD s j 0) (zero-add i)))
-
--- ---- the buffer with a command in front
-
--- it is as long as it was
-pub length-front : (s l : List ℕ) → length s ≤ length l → length (front s l) ≡ length l
-unfolding front
-length-front s l h = rw (length-append, length-drop) (omega arith)
-
--- its first bytes are the command's
-pub front-at : (s l : List ℕ) (i : ℕ) → i < length s → getD (front s l) i 0 ≡ getD s i 0
-unfolding front
-front-at s l i h = List·getD-append s (drop (length s) l) 0 i h
-
--- every other byte is as it was
-pub front-after : (s l : List ℕ) (i : ℕ) → length s ≤ i → getD (front s l) i 0 ≡ getD l i 0
-unfolding front
-front-after s l i h =
-    let e : i ≡ length s + (i - length s) = omega arith in
-    rw e (getD-append-add s (drop (length s) l) (i - length s) 0 ∙ getD-drop (length s) l (i - length s) 0)
 
 -- ---- the lengths of the commands
 

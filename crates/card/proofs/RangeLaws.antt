@@ -4,13 +4,13 @@ use mathlib.Core.Path.{_≡_, refl, sym, ap, ap₂, _∙_}
 use mathlib.Core.Bool.{Bool, true, _&&_, and-eq-true-iff}
 use mathlib.Core.List.{List, [], _∷_, _++_, append-nil, append-assoc}
 use mathlib.Core.Logic.{⊎-elim}
-use Prim.Native.Nat.{ℕ, zero, suc, _+_, _≤_, _<_}
+use Prim.Native.Nat.{ℕ, zero, suc, _+_, _-_, _≤_, _<_}
 use native.Mathlib.Nat.{not-suc-le-zero, le-of-suc-le-suc, le-step, le-refl, eq-or-lt-of-le, add-zero, add-suc, zero-add}
 use native.Mathlib.Numerals.{add-one}
 use native.Mathlib.Omega.{arith}
 use lib.ListN.{length, getD, set, take, drop, length-append, length-drop, take-append-drop, List·getD-append}
-use lib.Seq.{drop-cons, drop-length, length-take-le, append-snoc, set-at, getD-at, ext-getD, take-at, drop-at, drop-drop}
-use Rattle.card.specs.Range.{listOf, all, written}
+use lib.Seq.{drop-cons, drop-length, length-take-le, append-snoc, set-at, getD-at, ext-getD, take-at, drop-at, drop-drop, take-append-seam, drop-append-add, getD-append-add, getD-drop}
+use Rattle.card.specs.Range.{listOf, all, written, front, stored}
 
 -- ---- tests
 
@@ -115,3 +115,39 @@ front-more l n f h p q = rw zero-add at (written-more l 0 n f (rw zero-add h) p 
 pub front-end : (l : List ℕ) (n : ℕ) (f : ℕ → ℕ) {m : List ℕ} → n ≡ length l → m ≡ written l 0 n f → m ≡ listOf (length l) f
 unfolding written
 front-end l n f e p = p ∙ rw (zero-add, e, drop-length, append-nil)
+
+-- ---- a list stored in another
+
+-- a list stored from the first place on stands in front
+pub stored-first : (d s : List ℕ) → stored d 0 s ≡ front s d
+unfolding front stored
+stored-first d s = rw zero-add
+
+-- one stored right after the front makes the front longer
+pub stored-next : (p s d : List ℕ) {l : List ℕ} {n : ℕ} → l ≡ front p d → n ≡ length p → stored l n s ≡ front (p ++ s) d
+unfolding front stored
+stored-next p s d e k = rw (e, k, take-append-seam, drop-append-add, drop-drop, length-append)
+
+-- a list written whole is stored
+pub written-stored : (d s : List ℕ) (at : ℕ) → written d at (length s) (λ j. getD s (0 + j) 0) ≡ stored d at s
+unfolding written stored
+written-stored d s at =
+    ap (λ (t : List ℕ). take at d ++ t ++ drop (at + length s) d)
+    (listOf-is (length s) (λ j. getD s (0 + j) 0) s refl (λ i b. ap (λ (j : ℕ). getD s j 0) (zero-add i)))
+
+-- a list with another over its front is as long as it was
+pub length-front : (s l : List ℕ) → length s ≤ length l → length (front s l) ≡ length l
+unfolding front
+length-front s l h = rw (length-append, length-drop) (omega arith)
+
+-- its first places are those of the other
+pub front-at : (s l : List ℕ) (i : ℕ) → i < length s → getD (front s l) i 0 ≡ getD s i 0
+unfolding front
+front-at s l i h = List·getD-append s (drop (length s) l) 0 i h
+
+-- every other place is as it was
+pub front-after : (s l : List ℕ) (i : ℕ) → length s ≤ i → getD (front s l) i 0 ≡ getD l i 0
+unfolding front
+front-after s l i h =
+    let e : i ≡ length s + (i - length s) = omega arith in
+    rw e (getD-append-add s (drop (length s) l) (i - length s) 0 ∙ getD-drop (length s) l (i - length s) 0)

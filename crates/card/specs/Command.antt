@@ -2,10 +2,10 @@
 -- Assumes nothing.
 use mathlib.Core.Bool.{Bool, cond, not, _&&_}
 use mathlib.Core.List.{List, [], _∷_, _++_}
-use Prim.Native.Nat.{ℕ, _+_}
+use Prim.Native.Nat.{ℕ}
 use lib.Dec.{eqb, ltb, leb}
-use lib.ListN.{length, getD, take, drop}
-use Rattle.card.specs.Range.{sameBytes}
+use lib.ListN.{length, getD, take}
+use Rattle.card.specs.Range.{front, sameBytes}
 use Rattle.card.specs.Refusal.{refusalOf}
 use Rattle.card.specs.Object.{objectTag}
 use Rattle.card.specs.declared.object.Kind.{Kind}
@@ -29,13 +29,6 @@ unfoldable pub getResponseBytes : ℕ → List ℕ
 getResponseBytes second = (0x00 ∷ 0xC0 ∷ 0x00 ∷ 0x00 ∷ []) ++ (second ∷ [])
 
 -- ---- writing it
-
--- The bytes s over the front of l, and over those from place `at` on.
-unfoldable pub front : List ℕ → List ℕ → List ℕ
-front s l = s ++ drop (length s) l
-
-unfoldable pub stored : List ℕ → ℕ → List ℕ → List ℕ
-stored l at s = take at l ++ s ++ drop (at + length s) l
 
 -- What a command gives: number, count of bytes, and the buffer then. A refused one (number n is not 0) writes nothing.
 unfoldable pub commandOf : ℕ → List ℕ → List ℕ → (ℕ × ℕ) × List ℕ

@@ -20,6 +20,13 @@ run i n l = listOf n (λ j. getD l (i + j) 0)
 unfoldable pub written : List ℕ → ℕ → ℕ → (ℕ → ℕ) → List ℕ
 written l at n f = take at l ++ listOf n f ++ drop (at + n) l
 
+-- the list s over the front of l, and over the places from place at on
+unfoldable pub front : List ℕ → List ℕ → List ℕ
+front s l = s ++ drop (length s) l
+
+unfoldable pub stored : List ℕ → ℕ → List ℕ → List ℕ
+stored l at s = take at l ++ s ++ drop (at + length s) l
+
 -- the test f passes at each number below n
 unfoldable pub all : ℕ → (ℕ → Bool) → Bool
 all zero f = true

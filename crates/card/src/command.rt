@@ -4,8 +4,9 @@ use crate::object::Kind;
 ghost use mathlib.Core.Path.{_≡_};
 ghost use Prim.Native.Nat.{_+_, _≤_};
 ghost use lib.ListN.{length};
+ghost use Rattle.card.specs.Range.{stored};
 ghost use Rattle.card.specs.Object.{objectTag};
-ghost use Rattle.card.specs.Command.{stored, commandNumber, commandAnswer, selectOf, getDataOf, getResponseOf, statusOf};
+ghost use Rattle.card.specs.Command.{commandNumber, commandAnswer, selectOf, getDataOf, getResponseOf, statusOf};
 
 // What a command answers: how many bytes it wrote, or why it wrote none. `commandAnswer` gives document 01's number and the count of each.
 pub enum CommandAnswer {

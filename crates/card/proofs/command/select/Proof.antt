@@ -3,7 +3,8 @@ use mathlib.Core.Path.{refl, sym, _∙_}
 use native.Mathlib.Omega.{arith}
 use borrow.Author.Needs.{needs}
 use Rattle.card.specs.Command.{selectBytes, selectOf, commandOf}
-use Rattle.card.proofs.CommandLaws.{stored-first, stored-next, select-length, aid-most, command-fits, command-short}
+use Rattle.card.proofs.RangeLaws.{stored-first, stored-next}
+use Rattle.card.proofs.CommandLaws.{select-length, aid-most, command-fits, command-short}
 use Rattle.card.proofs.command.select.Statement.{statement}
 use Rattle.card.proofs.command.select.Tie as tie
 
