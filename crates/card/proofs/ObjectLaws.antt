@@ -10,7 +10,7 @@ use lib.Dec.{eqb, leb}
 use lib.ListN.{length, take, drop, replicate, length-drop}
 use lib.Seq.{take-append-le, drop-append-le}
 use Rattle.card.specs.Tlv.{headerOf, onlyOf}
-use Rattle.card.specs.Object.{mostFields, field, part, empty, rowsOf, fieldOf, fieldsFrom, fieldsAnswer, objectFrom, objectOf, partIn, bytesAt, fieldValue, allowed, rowIn}
+use Rattle.card.specs.Object.{mostFields, field, part, empty, rowsOf, fieldOf, fieldsFrom, fieldsAnswer, objectFrom, objectOf, partIn, bytesAt, fieldPart, fieldValue, allowed, rowIn}
 use Rattle.card.specs.declared.tlv.Header.{Header}
 use Rattle.card.specs.declared.tlv.Header.the-variants.{Whole, Malformed}
 use Rattle.card.specs.declared.object.Kind.{Kind}
@@ -91,7 +91,7 @@ part-inside-of n (r ∷ rs) (p ∷ ps) tag i = by-tag (eqb (r .0) tag) (part-ins
     by-tag false later = later
 
 -- in an object
-pub part-inside : (k : Kind) (s : List ℕ) (tag : ℕ) → Inside (length s) (partIn (rowsOf k) (objectOf k s .1) tag)
+pub part-inside : (k : Kind) (s : List ℕ) (tag : ℕ) → Inside (length s) (fieldPart k tag s)
 part-inside k s tag = part-inside-of (length s) (rowsOf k) (objectOf k s .1) tag (parts-inside k s)
 
 -- ---- what stands after an object
@@ -103,9 +103,9 @@ bytes-after s after p i =
     rw (drop-append-le (p .start) s after (omega arith), take-append-le (p .len) (drop (p .start) s) after (omega (arith, length-drop (p .start) s)))
 
 -- so a field's value stays what it is
-pub field-after : (k : Kind) (tag : ℕ) (s after : List ℕ) → bytesAt (s ++ after) (partIn (rowsOf k) (objectOf k s .1) tag) ≡ fieldValue k tag s
+pub field-after : (k : Kind) (tag : ℕ) (s after : List ℕ) → bytesAt (s ++ after) (fieldPart k tag s) ≡ fieldValue k tag s
 unfolding fieldValue
-field-after k tag s after = bytes-after s after (partIn (rowsOf k) (objectOf k s .1) tag) (part-inside k s tag)
+field-after k tag s after = bytes-after s after (fieldPart k tag s) (part-inside k s tag)
 
 -- ---- the lengths of the fields of a good object
 
@@ -175,7 +175,7 @@ fields-allowed v base (r ∷ rs) at tag more o =
     by-tag false here later = later
 
 -- the field with a tag in a good object has a length that its row allows
-pub part-allowed : (k : Kind) (s : List ℕ) (tag : ℕ) → objectOf k s .0 ≡ 0 → allowed (rowIn (rowsOf k) tag) (partIn (rowsOf k) (objectOf k s .1) tag .len) ≡ true
+pub part-allowed : (k : Kind) (s : List ℕ) (tag : ℕ) → objectOf k s .0 ≡ 0 → allowed (rowIn (rowsOf k) tag) (fieldPart k tag s .len) ≡ true
 part-allowed k s tag p =
     let g = good k s p in
     rw (g .parts) (fields-allowed (take (g .len) (drop (g .start) s)) (g .start) (rowsOf k) 0 tag (g .filler) (g .fields))
@@ -187,33 +187,29 @@ or-left false e = e
 
 -- the field with a tag that has to be there, in a good object: it has a length between the least and the greatest
 pub length-between : (k : Kind) (s : List ℕ) (tag low high : ℕ) → rowIn (rowsOf k) tag ≡ field tag low high → objectOf k s .0 ≡ 0
-    → let n = partIn (rowsOf k) (objectOf k s .1) tag .len in (low ≤ n) × (n ≤ high)
+    → let n = fieldPart k tag s .len in (low ≤ n) × (n ≤ high)
 length-between k s tag low high r p =
-    let n = partIn (rowsOf k) (objectOf k s .1) tag .len in
+    let n = fieldPart k tag s .len in
     let fits : allowed (field tag low high) n ≡ true = rw r at (part-allowed k s tag p) in
     let q = and-eq-true-iff (leb low n) (leb n high) .0 (or-left (leb low n && leb n high) fits) in
     (leb-true low n (q .0), leb-true n high (q .1))
 
 -- so where its row fixes the length, it has that length
-pub length-is : (k : Kind) (s : List ℕ) (tag n : ℕ) → rowIn (rowsOf k) tag ≡ field tag n n → objectOf k s .0 ≡ 0 → partIn (rowsOf k) (objectOf k s .1) tag .len ≡ n
+pub length-is : (k : Kind) (s : List ℕ) (tag n : ℕ) → rowIn (rowsOf k) tag ≡ field tag n n → objectOf k s .0 ≡ 0 → fieldPart k tag s .len ≡ n
 length-is k s tag n r p = let b = length-between k s tag n n r p in omega (arith, b .0, b .1)
-
--- the length of the field with a tag
-abbrev pub lengthIn : Kind → List ℕ → ℕ → ℕ
-lengthIn k s tag = partIn (rowsOf k) (objectOf k s .1) tag .len
 
 -- the lengths of the fields that have to be there, object by object
 pub signed-lengths : (s : List ℕ) → objectOf Signed s .0 ≡ 0
-    → (lengthIn Signed s 0x30 ≡ 25) × (lengthIn Signed s 0x34 ≡ 16) × (lengthIn Signed s 0x35 ≡ 8) × (1 ≤ lengthIn Signed s 0x3E) × (lengthIn Signed s 0x3E ≤ 2816)
+    → (fieldPart Signed 0x30 s .len ≡ 25) × (fieldPart Signed 0x34 s .len ≡ 16) × (fieldPart Signed 0x35 s .len ≡ 8) × (1 ≤ fieldPart Signed 0x3E s .len) × (fieldPart Signed 0x3E s .len ≤ 2816)
 unfolding rowIn rowsOf
 signed-lengths s p =
     let b = length-between Signed s 0x3E 1 2816 refl p in
     (length-is Signed s 0x30 25 refl p, length-is Signed s 0x34 16 refl p, length-is Signed s 0x35 8 refl p, b .0, b .1)
 
-pub unsigned-lengths : (s : List ℕ) → objectOf Unsigned s .0 ≡ 0 → (lengthIn Unsigned s 0x30 ≡ 25) × (lengthIn Unsigned s 0x35 ≡ 8)
+pub unsigned-lengths : (s : List ℕ) → objectOf Unsigned s .0 ≡ 0 → (fieldPart Unsigned 0x30 s .len ≡ 25) × (fieldPart Unsigned 0x35 s .len ≡ 8)
 unfolding rowIn rowsOf
 unsigned-lengths s p = (length-is Unsigned s 0x30 25 refl p, length-is Unsigned s 0x35 8 refl p)
 
-pub fingers-lengths : (s : List ℕ) → objectOf Fingers s .0 ≡ 0 → (1 ≤ lengthIn Fingers s 0xBC) × (lengthIn Fingers s 0xBC ≤ 862)
+pub fingers-lengths : (s : List ℕ) → objectOf Fingers s .0 ≡ 0 → (1 ≤ fieldPart Fingers 0xBC s .len) × (fieldPart Fingers 0xBC s .len ≤ 862)
 unfolding rowIn rowsOf
 fingers-lengths s p = length-between Fingers s 0xBC 1 862 refl p

@@ -115,12 +115,16 @@ partIn [] ps tag = empty
 partIn (r ∷ rs) [] tag = empty
 partIn (r ∷ rs) (p ∷ ps) tag = cond (eqb (rowTag r) tag) p (partIn rs ps tag)
 
--- The bytes of a part of s; the value of the field with a tag in the object s.
+-- The bytes of a part of s.
 unfoldable pub bytesAt : List ℕ → Part → List ℕ
 bytesAt s p = take (p .len) (drop (p .start) s)
 
+-- The part of the field with a tag in the object s, and its value.
+abbrev pub fieldPart : Kind → ℕ → List ℕ → Part
+fieldPart k tag s = partIn (rowsOf k) (objectOf k s .1) tag
+
 unfoldable pub fieldValue : Kind → ℕ → List ℕ → List ℕ
-fieldValue k tag s = bytesAt s (partIn (rowsOf k) (objectOf k s .1) tag)
+fieldValue k tag s = bytesAt s (fieldPart k tag s)
 
 -- ---- what laws say of an object
 
