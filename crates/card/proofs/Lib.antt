@@ -27,5 +27,3 @@ pub mod MadeLaws
 pub mod DateLaws
 -- CommandLaws: commands, and the buffer that they are written to
 pub mod CommandLaws
--- Twelve: document 01's worked examples
-pub mod Twelve

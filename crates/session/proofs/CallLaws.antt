@@ -1,0 +1,121 @@
+-- What open, answer, verdict, field and stamp give, by the number that refuses them: where it is 0, and where it is not.
+-- Assumes nothing.
+use mathlib.Core.Path.{_≡_, refl, sym, _∙_}
+use mathlib.Core.Bool.{Bool, true, false, cond, not, _&&_, _||_, and-false}
+use mathlib.Core.List.{List, [], _∷_}
+use Prim.Native.Nat.{ℕ, _+_, _-_, _≤_}
+use native.Mathlib.Nat.{add-sub-cancel-left}
+use borrow.Author.Tests.{eq-eqb, ne-eqb, eqb-true, not-false, ltb-false, leb-true}
+use lib.Dec.{eqb, leb}
+use lib.ListN.{length, take, drop}
+use lib.Seq.{drop-drop}
+use Rattle.card.specs.Range.{front}
+use Rattle.card.specs.Object.{bytesAt}
+use Rattle.card.specs.declared.object.Part.{Part}
+use Rattle.card.proofs.CommandLaws.{aid-most}
+use Rattle.session.specs.Tables.{objectSize, baseOf, stepOfTag, dataOf, statusBytes, stampSize}
+use Rattle.session.specs.Condition.{openConditions, answerConditions, stampConditions}
+use Rattle.session.specs.Ranges.{inRange, outOfRange}
+use Rattle.session.specs.Operation.{openRefusal, answerRefusal, takenSession, takenBuffer, answerOf, answerBuffer, stampIn, stampRefusal, stampBuffer, partFor, fieldRefusal, fieldOf}
+use Rattle.session.specs.declared.state.Session.{Session}
+use Rattle.session.proofs.TestLaws.{and-left, and-right, or-left, or-right}
+use Rattle.session.proofs.ConditionLaws.{none-fit}
+
+-- ---- any call
+
+-- the number n of the code is k of a definition, and it is 0, or it is not
+pub none : {n k : ℕ} → n ≡ k → n ≡ 0 → eqb k 0 ≡ true
+none {n} {k} e z = eq-eqb k 0 (sym e ∙ z)
+
+pub some : {n k : ℕ} → n ≡ k → (n ≡ 0 → ⊥) → eqb k 0 ≡ false
+some {n} {k} e f = ne-eqb k 0 (λ z. f (e ∙ z))
+
+-- the number and the session of a call that is accepted, and of one that is refused
+pub accepts : {A : Type 0} {n k : ℕ} {x y : A} (s : A) → n ≡ k → n ≡ 0 → x ≡ y → _≡_ {A = ℕ × A} (n, x) (cond (eqb k 0) (0, y) (k, s))
+accepts s e z f = rw (none e z, z, f)
+
+pub refuses : {A : Type 0} {n k : ℕ} {x s : A} (y : A) → n ≡ k → (n ≡ 0 → ⊥) → x ≡ s → _≡_ {A = ℕ × A} (n, x) (cond (eqb k 0) (0, y) (k, s))
+refuses y e f p = rw (some e f, e, p)
+
+-- ---- open
+
+-- an opening that is not refused has an AID of at most 16 bytes
+pub open-fits : (mode date : ℕ) (aid : List ℕ) → openRefusal mode date aid ≡ 0 → length aid ≤ 16
+unfolding openRefusal
+open-fits mode date aid e = aid-most aid (none-fit (openConditions mode date aid) refl e .1 .1 .0)
+
+-- ---- answer
+
+-- what an answer that is accepted has passed
+pub record Fitting (s : Session) (size n : ℕ) : Type 0 where
+  pub range : inRange s ≡ true
+  pub whole : size ≡ objectSize
+  pub least : 2 ≤ n
+  pub most : n ≤ 258
+
+pub answer-fits : (s : Session) (size n : ℕ) → answerRefusal s size n ≡ 0 → Fitting s size n
+unfolding answerRefusal
+answer-fits s size n e =
+    let c = none-fit ((4, outOfRange s) ∷ answerConditions (s .progress .outstanding) size n) refl e in
+    let h = not-false (leb 2 n && leb n 258) (c .1 .1 .1 .0) in
+    record { range = not-false _ (c .0); whole = eqb-true size objectSize (not-false _ (c .1 .1 .0)); least = leb-true 2 n (and-left (leb 2 n) (leb n 258) h); most = leb-true n 258 (and-right (leb 2 n) (leb n 258) h) }
+
+pub answer-taken : (s : Session) (object bytes cancelled : List ℕ) {n : ℕ} {x : Session} {m : List ℕ} → n ≡ answerRefusal s (length object) (length bytes) → n ≡ 0
+    → x ≡ takenSession s object (dataOf bytes) (statusBytes bytes) cancelled → m ≡ takenBuffer s object (dataOf bytes) (statusBytes bytes)
+    → ((n, x) ≡ answerOf s object bytes cancelled) × (m ≡ answerBuffer s object bytes)
+unfolding answerOf answerBuffer
+answer-taken s object bytes cancelled e z f g = (accepts s e z f, rw (none e z) g)
+
+pub answer-refused : (s : Session) (object bytes cancelled : List ℕ) {n : ℕ} → n ≡ answerRefusal s (length object) (length bytes) → (n ≡ 0 → ⊥)
+    → ((n, s) ≡ answerOf s object bytes cancelled) × (object ≡ answerBuffer s object bytes)
+unfolding answerOf answerBuffer
+answer-refused s object bytes cancelled e f = (refuses _ e f refl, rw (some e f))
+
+-- ---- field
+
+-- the number that refuses a field call, by its two tests
+refusing : (a b : Bool) → a || b ≡ true → eqb (cond a 4 (cond b 7 0)) 0 ≡ false
+refusing true b e = refl
+refusing false true e = refl
+refusing false false e = sym e
+
+pub field-refused : (s : Session) (object : List ℕ) (tag : ℕ) → outOfRange s || not (eqb (length object) objectSize) ≡ true → [] ≡ fieldOf s object tag
+unfolding fieldOf fieldRefusal
+field-refused s object tag e = rw (refusing (outOfRange s) (not (eqb (length object) objectSize)) e)
+
+-- a tag that no field call may ask for
+pub field-other : (s : Session) (object : List ℕ) (tag : ℕ) → stepOfTag tag ≡ 0 → [] ≡ fieldOf s object tag
+unfolding fieldOf
+field-other s object tag e = rw (eq-eqb _ _ e, and-false)
+
+-- a session in range, and a buffer of the right size
+pub field-accepted : (s : Session) (n : ℕ) → outOfRange s || not (eqb n objectSize) ≡ false → (inRange s ≡ true) × (n ≡ objectSize)
+field-accepted s n e = (
+  not-false (inRange s) (or-left (outOfRange s) (not (eqb n objectSize)) e),
+  eqb-true n objectSize (not-false (eqb n objectSize) (or-right (outOfRange s) (not (eqb n objectSize)) e)),
+)
+
+pub field-read : (s : Session) (object : List ℕ) (tag : ℕ) → inRange s ≡ true → length object ≡ objectSize → (stepOfTag tag ≡ 0 → ⊥)
+    → let step = stepOfTag tag in bytesAt (drop (baseOf step) object) (partFor s step tag) ≡ fieldOf s object tag
+unfolding fieldOf fieldRefusal
+field-read s object tag e n h = rw (e, eq-eqb _ _ n, ne-eqb (stepOfTag tag) 0 h)
+
+-- a part of a step's data as a part of the object buffer
+pub part-in-buffer : (object : List ℕ) (base : ℕ) (p : Part) → take (base + p .start + p .len - (base + p .start)) (drop (base + p .start) object) ≡ bytesAt (drop base object) p
+unfolding bytesAt
+part-in-buffer object base p = rw (add-sub-cancel-left, drop-drop)
+
+-- ---- stamp
+
+-- a stamp that is not refused has room
+pub stamp-fits : (s : Session) (room : ℕ) → stampRefusal s room ≡ 0 → stampSize ≤ room
+unfolding stampRefusal
+stamp-fits s room e = ltb-false room stampSize (none-fit ((4, outOfRange s) ∷ stampConditions room) refl e .1 .0)
+
+pub stamp-accepted : (s : Session) (out : List ℕ) {k : ℕ} {after : List ℕ} → k ≡ stampRefusal s (length out) → k ≡ 0 → after ≡ front (stampIn s) out → after ≡ stampBuffer s out
+unfolding stampBuffer
+stamp-accepted s out e z p = rw (none e z, p)
+
+pub stamp-refused : (s : Session) (out : List ℕ) {k : ℕ} → k ≡ stampRefusal s (length out) → (k ≡ 0 → ⊥) → out ≡ stampBuffer s out
+unfolding stampBuffer
+stamp-refused s out e f = rw (some e f)

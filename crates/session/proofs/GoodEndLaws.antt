@@ -1,0 +1,170 @@
+-- The good end of a step: the next step begins, and what the step gave is kept.
+-- Assumes nothing.
+use mathlib.Core.Path.{_≡_, refl, sym, ap, subst, _∙_}
+use mathlib.Core.Bool.{Bool, true, false, cond, not}
+use mathlib.Core.Option.{Option}
+use mathlib.Core.List.{List, [], _∷_}
+use Prim.Native.Nat.{ℕ, _≤_, _<_}
+use native.Mathlib.Omega.{arith}
+use borrow.Author.Tests.{eqb-true, eqb-false, not-false}
+use lib.Dec.{eqb}
+use lib.ListN.{length, getD, set, take, drop, length-set}
+use lib.Seq.{getD-set-same, getD-set-other}
+use Rattle.card.specs.Object.{objectOf, fieldValue}
+use Rattle.card.specs.Fascn.{unpackOf}
+use Rattle.card.specs.Date.{dateOf}
+use Rattle.session.specs.Tables.{checkOf, outcomeOf, expiryOutcome, listOutcome, judgedOutcomes, hasStep2, kindAt, stepAfter, baseOf, objectSize, fascnIn, keyIn, expiryIn, objectCause, joinedCause}
+use Rattle.session.specs.Reading.{Opening, StepOne, Verdict, Found, Reading, withCourse, atStep, goodEnd, ownFascn}
+use Rattle.session.specs.Finding.{verdictOn}
+use Rattle.session.specs.Ranges.{stepInRange}
+use Rattle.session.specs.Promise.{Host}
+use Rattle.session.specs.Operation.{nextStep, secondRead}
+use Rattle.session.specs.Promise.{Bytes}
+use Rattle.session.specs.declared.state.Session.{Session}
+use Rattle.session.proofs.TestLaws.{clash, by-test}
+use Rattle.session.proofs.ConditionLaws.{none-fit}
+use Rattle.session.proofs.OutcomeLaws.{place-of, placed, set-in-range, expiry-small, list-small}
+use Rattle.session.proofs.Invariant.{session-of, Kept, GoodOne, OneKept, TwoKept, Stage, Heard, Judged, GoodCourse, Invariant, Reaches}
+
+-- a buffer that has all that a reading needs of it
+pub record Leaves (r : Reading) (m : List ℕ) : Type 0 where
+  pub size : length m ≡ objectSize
+  pub held : take (length (r .course .joined)) (drop (baseOf (r .course .step)) m) ≡ r .course .joined
+  pub one : OneKept (r .opening .mode) (r .found .first) m
+  pub two : TwoKept (r .found .second) m
+
+-- a step that begins: no data, no cause, no command outstanding
+begun-course : (mode step : ℕ) → stepInRange mode step ≡ true → GoodCourse mode (atStep step)
+begun-course mode step e = record { step = e; filled = omega arith; cause = refl; outstanding = refl; no-cause = λ z. refl; shown1 = refl; shown2 = refl; bytes = λ i. omega arith }
+
+-- ---- step 0
+
+template-end : (r : Reading) (m m′ : List ℕ) → Invariant r m → Leaves r m′ → r .course .step ≡ 0 → Invariant (withCourse r (atStep 1)) m′
+template-end r m m′ i l e =
+    record { opening = i .opening; course-good = begun-course (r .opening .mode) 1 refl; held = refl; one = l .one; two = l .two; stage = up (r .found) (subst (λ (s : ℕ). Stage s (r .found)) e (i .stage)); judged = i .judged }
+  where
+    up : (f : Found) → Stage 0 f → Stage 1 f
+    up f (Stage.early l e) = Stage.early (omega arith) e
+    up f (Stage.between h x e) = absurd (omega arith)
+    up f (Stage.late h x e) = absurd (omega arith)
+
+-- ---- step 1
+
+-- what its conditions give
+one-good : (mode : ℕ) (xs cancelled : List ℕ) → Bytes xs → joinedCause mode 1 xs ≡ 0 → GoodOne mode (record { joined = xs; cancelled = cancelled })
+unfolding joinedCause objectCause
+one-good mode xs cancelled b e =
+    let u = unpackOf (fascnIn mode xs) .0 in
+    let d = dateOf (fieldValue (kindAt mode 1) 0x35 xs) .0 in
+    let c = none-fit ((20, not (eqb (objectOf (kindAt mode 1) xs .0) 0)) ∷ (21, not (eqb u 0)) ∷ (22, not (eqb d 0)) ∷ []) refl e in
+    record { object = eqb-true _ 0 (not-false _ (c .0)); fascn = eqb-true u 0 (not-false _ (c .1 .0)); date = eqb-true d 0 (not-false _ (c .1 .1 .0)); bytes = b }
+
+-- what no verdict gave waits on, whatever FASC-N is then read
+waits-on : (kind : ℕ) (needed : Bool) (own own′ : List ℕ) (v : Option Verdict) (o o′ : ℕ) → v ≡ Option.none → o′ ≡ o → Heard kind needed own v o → Heard kind needed own′ v o′
+waits-on kind needed own own′ v o o′ n e (Heard.unheard p q) = Heard.unheard p (e ∙ q)
+waits-on kind needed own own′ v o o′ n e (Heard.heard says f p q h z) = clash (sym (ap is n) ∙ ap is p)
+  where
+    is : Option Verdict → Bool
+    is Option.none = false
+    is (Option.some x) = true
+
+-- the two outcomes that step 1's good end sets
+module _ (o : List ℕ) (a b : ℕ) (six : length o ≡ 6) where
+  set-other : (i : ℕ) → (i ≡ 2 → ⊥) → (i ≡ 3 → ⊥) → getD (set (set o 2 a) 3 b) i 0 ≡ getD o i 0
+  set-other i h k = getD-set-other (set o 2 a) 3 i b 0 k ∙ getD-set-other o 2 i a 0 h
+
+  set-three : getD (set (set o 2 a) 3 b) 2 0 ≡ a
+  set-three = getD-set-other (set o 2 a) 3 2 b 0 (λ e. omega arith) ∙ getD-set-same o 2 a 0 (omega arith)
+
+  set-four : getD (set (set o 2 a) 3 b) 3 0 ≡ b
+  set-four = getD-set-same (set o 2 a) 3 b 0 (omega (arith, length-set o 2 a))
+
+abbrev nothing : Found
+nothing = record { first = Option.none; second = Option.none; verdicts = [] }
+
+one-judged : (o : Opening) (old : List ℕ) (f : Found) (xs cancelled : List ℕ) → f ≡ nothing → Judged o old f
+    → Judged o (judgedOutcomes (o .mode) (o .date) old xs cancelled) (record { first = Option.some (record { joined = xs; cancelled = cancelled }); second = f .second; verdicts = f .verdicts })
+unfolding verdictOn
+one-judged o old f xs cancelled n j =
+    let a = expiryOutcome (o .date) (expiryIn (o .mode) xs) in
+    let b = listOutcome (keyIn (o .mode) xs) cancelled in
+    let six : length (set old 2 a) ≡ 6 = length-set old 2 a ∙ j .six in
+    record {
+      six = length-set (set old 2 a) 3 b ∙ six;
+      small = set-in-range (set old 2 a) 3 b (omega (arith, six)) (list-small (keyIn (o .mode) xs) cancelled) (set-in-range old 2 a (omega (arith, j .six)) (expiry-small (o .date) (expiryIn (o .mode) xs)) (j .small));
+      verdicts = λ kind g. waits-on kind _ (ownFascn (o .mode) (f .first)) _ (verdictOn kind (f .verdicts)) (outcomeOf old (checkOf kind)) _ (ap (λ (x : Found). verdictOn kind (x .verdicts)) n) (set-other old a b (j .six) (place-of kind) (λ z. placed kind g .not-expiry (sym z)) (λ z. placed kind g .not-list (sym z))) (j .verdicts kind g);
+      expiry = set-three old a b (j .six);
+      list = set-four old a b (j .six);
+    }
+
+-- where nothing was found yet
+early-found : (step : ℕ) (f : Found) → step ≡ 1 → Stage step f → f ≡ nothing
+early-found step f e (Stage.early l n) = n
+early-found step f e (Stage.between h x n) = absurd (omega arith)
+early-found step f e (Stage.late h x n) = absurd (omega arith)
+
+after-one : (mode : ℕ) → stepInRange mode (stepAfter mode 1) ≡ true
+after-one mode = go (hasStep2 mode) refl
+  where
+    go : (b : Bool) → hasStep2 mode ≡ b → stepInRange mode (cond b 2 3) ≡ true
+    go true e = e
+    go false e = refl
+
+one-stage : (mode : ℕ) (one : StepOne) → Stage (stepAfter mode 1) (record { first = Option.some one; second = Option.none; verdicts = [] })
+one-stage mode one = go (hasStep2 mode)
+  where
+    go : (b : Bool) → Stage (cond b 2 3) (record { first = Option.some one; second = Option.none; verdicts = [] })
+    go true = Stage.between refl one refl
+    go false = Stage.late refl one refl
+
+one-end : (r : Reading) (m m′ xs cancelled : List ℕ) → Invariant r m → Leaves r m′ → r .course .step ≡ 1 → Bytes xs → Kept xs m′ 0 → joinedCause (r .opening .mode) 1 xs ≡ 0
+    → Invariant (record { opening = r .opening; course = atStep (stepAfter (r .opening .mode) 1); outcomes = judgedOutcomes (r .opening .mode) (r .opening .date) (r .outcomes) xs cancelled; found = record { first = Option.some (record { joined = xs; cancelled = cancelled }); second = r .found .second; verdicts = r .found .verdicts } }) m′
+one-end r m m′ xs cancelled i l e b k good =
+    let mode = r .opening .mode in
+    let one : StepOne = record { joined = xs; cancelled = cancelled } in
+    let n = early-found (r .course .step) (r .found) e (i .stage) in
+    record {
+      opening = i .opening;
+      course-good = begun-course mode (stepAfter mode 1) (after-one mode);
+      held = refl;
+      one = (one-good mode xs cancelled b good, k);
+      two = l .two;
+      stage = subst (λ (f : Found). Stage (stepAfter mode 1) (record { first = Option.some one; second = f .second; verdicts = f .verdicts })) (sym n) (one-stage mode one);
+      judged = one-judged (r .opening) (r .outcomes) (r .found) xs cancelled n (i .judged);
+    }
+
+-- ---- step 2
+
+two-end : (r : Reading) (m m′ xs : List ℕ) → Invariant r m → Leaves r m′ → r .course .step ≡ 2 → Kept xs m′ 4096
+    → Invariant (record { opening = r .opening; course = atStep 3; outcomes = r .outcomes; found = record { first = r .found .first; second = Option.some xs; verdicts = r .found .verdicts } }) m′
+two-end r m m′ xs i l e k =
+    record { opening = i .opening; course-good = begun-course (r .opening .mode) 3 refl; held = refl; one = l .one; two = k; stage = up (r .course .step) (r .found) e (i .stage); judged = record { six = i .judged .six; small = i .judged .small; verdicts = i .judged .verdicts; expiry = i .judged .expiry; list = i .judged .list } }
+  where
+    up : (step : ℕ) (f : Found) → step ≡ 2 → Stage step f → Stage 3 (record { first = f .first; second = Option.some xs; verdicts = f .verdicts })
+    up step f z (Stage.early h n) = absurd (omega arith)
+    up step f z (Stage.between h one n) = Stage.late refl one (ap (λ (y : Found). y .first) n)
+    up step f z (Stage.late h one n) = absurd (omega arith)
+
+-- ---- any step
+
+pub good-end : (r : Reading) (m m′ xs cancelled : List ℕ) → Invariant r m → Leaves r m′ → r .course .step < 3 → length xs ≤ 4096 → Bytes xs
+    → take (length xs) (drop (baseOf (r .course .step)) m′) ≡ xs → joinedCause (r .opening .mode) (r .course .step) xs ≡ 0
+    → Reaches (record { session = nextStep (session-of r) xs cancelled; object = m′ }) (goodEnd r xs cancelled)
+unfolding nextStep goodEnd
+good-end r m m′ xs cancelled i l lt small b held good =
+    let step = r .course .step in
+    by-test (λ (s : Session) (q : Reading). Reaches (record { session = s; object = m′ }) q) _ _ _ _ (eqb step 0)
+    (λ e. record { object = m′; same = refl; holds = template-end r m m′ i l (eqb-true step 0 e) })
+    (λ e0. by-test (λ (s : Session) (q : Reading). Reaches (record { session = s; object = m′ }) q) _ _ _ _ (eqb step 1)
+    (λ e. let e1 = eqb-true step 1 e in record { object = m′; same = refl; holds = one-end r m m′ xs cancelled i l e1 b (kept step 0 (ap baseOf e1) held) (subst (λ (n : ℕ). joinedCause (r .opening .mode) n xs ≡ 0) e1 good) })
+    (λ e1. let e2 = last step lt (eqb-false step 0 e0) (eqb-false step 1 e1) in record { object = m′; same = second step e2; holds = two-end r m m′ xs i l e2 (kept step 4096 (ap baseOf e2) held) }))
+  where
+    last : (n : ℕ) → n < 3 → (n ≡ 0 → ⊥) → (n ≡ 1 → ⊥) → n ≡ 2
+    last n a p q = omega arith
+
+    second : (n : ℕ) → n ≡ 2
+        → _≡_ {A = Host} (record { session = secondRead (session-of r) (objectOf (kindAt (r .opening .mode) n) xs .1); object = m′ }) (record { session = secondRead (session-of r) (objectOf (kindAt (r .opening .mode) 2) xs .1); object = m′ })
+    second n e = rw e
+
+    kept : (step base : ℕ) → baseOf step ≡ base → take (length xs) (drop (baseOf step) m′) ≡ xs → Kept xs m′ base
+    kept step base e h = record { whole = l .size; small = small; held = rw e at h }

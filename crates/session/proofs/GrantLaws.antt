@@ -1,0 +1,194 @@
+-- Granted, said of the calls: the standing is 1 exactly where every check that the mode needs passed on the FASC-N of step 1.
+-- Assumes nothing.
+use mathlib.Core.Path.{_≡_, refl, sym, ap, subst, _∙_}
+use mathlib.Core.Bool.{Bool, true, false, cond, not, _&&_, _||_}
+use mathlib.Core.Logic.{_↔_}
+use mathlib.Core.Option.{Option}
+use mathlib.Core.List.{List, [], _∷_}
+use Prim.Native.Nat.{ℕ, zero, suc, _+_, _≤_, _<_}
+use native.Mathlib.Omega.{arith}
+use borrow.Author.Tests.{eqb-true, eqb-false, leb-true, le-leb}
+use lib.Dec.{eqb, leb}
+use lib.ListN.{length, getD}
+use Rattle.card.specs.Range.{sameBytes}
+use Rattle.card.proofs.RangeLaws.{all-at, all-of}
+use Rattle.card.proofs.FascnLaws.{same-bytes, same-refl}
+use Rattle.session.specs.Tables.{checks, goodKind, needs, isIn, checkOf, outcomeOf, passed, unneeded, failed, otherCard, verdictOutcome, expiryOutcome, listed, listOutcome, lowestFrom, causeOf, allPassed, standingOf, fascnIn, keyIn, expiryIn}
+use Rattle.session.specs.Reading.{Opening, StepOne, Verdict, Found, Reading, ownFascn}
+use Rattle.session.specs.Finding.{finding, standing, Granted}
+use Rattle.session.proofs.TestLaws.{clash, and-left, and-right}
+use Rattle.session.proofs.OutcomeLaws.{place-of, placed}
+use Rattle.session.proofs.Invariant.{Stage, Heard, ExpiryJudged, ListJudged, Judged, Invariant}
+
+-- ---- checks and kinds
+
+-- every mode needs checks 3 and 4
+needs-both : (mode : ℕ) → (needs mode 3 ≡ true) × (needs mode 4 ≡ true)
+unfolding needs
+needs-both mode = go (eqb mode 1) (eqb mode 2) (eqb mode 3)
+  where
+    go : (a b c : Bool) → let cs = cond {A = List ℕ} a (1 ∷ 2 ∷ 3 ∷ 4 ∷ []) (cond b (3 ∷ 4 ∷ 5 ∷ []) (cond c (1 ∷ 2 ∷ 3 ∷ 4 ∷ 6 ∷ []) (1 ∷ 2 ∷ 3 ∷ 4 ∷ 5 ∷ 6 ∷ []))) in
+        (isIn 3 cs ≡ true) × (isIn 4 cs ≡ true)
+    go true b c = (refl, refl)
+    go false true c = (refl, refl)
+    go false false true = (refl, refl)
+    go false false false = (refl, refl)
+
+-- checks 3 and 4, where step 1 has ended well
+expiry-judged : {p : Opening} {o : List ℕ} {f : Found} {one : StepOne} → Judged p o f → f .first ≡ Option.some one
+    → outcomeOf o 3 ≡ expiryOutcome (p .date) (expiryIn (p .mode) (one .joined))
+expiry-judged {p} {o} j e = subst (ExpiryJudged (p .mode) (p .date) o) e (j .expiry)
+
+list-judged : {p : Opening} {o : List ℕ} {f : Found} {one : StepOne} → Judged p o f → f .first ≡ Option.some one
+    → outcomeOf o 4 ≡ listOutcome (keyIn (p .mode) (one .joined)) (one .cancelled)
+list-judged {p} {o} j e = subst (ListJudged (p .mode) o) e (j .list)
+
+-- ---- granted, from the standing
+
+-- a standing of 1 has passed the second test
+stands : (a b : Bool) → cond {A = ℕ} a 2 (cond b 1 0) ≡ 1 → b ≡ true
+stands a true e = refl
+stands true false e = absurd (omega arith)
+stands false false e = absurd (omega arith)
+
+-- a needed check passed
+passed-at : (mode : ℕ) (o : List ℕ) → allPassed mode o ≡ true → (i : ℕ) → i < checks → needs mode (i + 1) ≡ true → getD o i 0 ≡ passed
+unfolding allPassed
+passed-at mode o p i low n =
+    let t : (not (needs mode (i + 1)) || eqb (getD o i 0) passed) ≡ true = all-at _ checks p i low in
+    eqb-true (getD o i 0) passed (rw n at t)
+
+-- what the outcomes of checks 3 and 4 say where they passed
+in-time-by : (date expiry : ℕ) → expiryOutcome date expiry ≡ passed → date ≤ expiry
+unfolding expiryOutcome
+in-time-by date expiry e = leb-true date expiry (go (leb date expiry) e)
+  where
+    go : (b : Bool) → cond {A = ℕ} b passed failed ≡ passed → b ≡ true
+    go true q = refl
+    go false q = absurd (omega arith)
+
+not-listed-by : (key : ℕ) (cancelled : List ℕ) → listOutcome key cancelled ≡ passed → listed key cancelled ≡ false
+unfolding listOutcome
+not-listed-by key cancelled e = go (listed key cancelled) e
+  where
+    go : (b : Bool) → cond {A = ℕ} b failed passed ≡ passed → b ≡ false
+    go true q = absurd (omega arith)
+    go false q = refl
+
+-- the verdict that passed was a yes on the card's own bytes
+yes-by : (own : List ℕ) (says : ℕ) (fascn : List ℕ) → verdictOutcome own says fascn ≡ passed → (says ≡ 0 → ⊥) × (fascn ≡ own)
+unfolding verdictOutcome
+yes-by own says fascn e = let q = go (eqb says 0) (sameBytes fascn own) e in (eqb-false says 0 (q .0), same-bytes fascn own (q .1))
+  where
+    go : (a b : Bool) → cond {A = ℕ} a failed (cond b passed otherCard) ≡ passed → (a ≡ false) × (b ≡ true)
+    go true b q = absurd (omega arith)
+    go false true q = (refl, refl)
+    go false false q = absurd (omega arith)
+
+-- so of a needed kind that passed such a verdict was accepted
+heard-yes : (kind : ℕ) (needed : Bool) (own : List ℕ) (v : Option Verdict) (o : ℕ) → Heard kind needed own v o → needed ≡ true → o ≡ passed
+    → v ≡ Option.some (record { kind = kind; says = 1; fascn = own })
+heard-yes kind needed own v o (Heard.unheard n e) t p = let h : _≡_ {A = ℕ} 1 2 = sym (ap (λ (b : Bool). cond b 1 0) t) ∙ sym e ∙ p in absurd (omega arith)
+heard-yes kind needed own v o (Heard.heard says fascn n c le e) t p =
+    let y = yes-by own says fascn (sym e ∙ p) in
+    let one : says ≡ 1 = omega (arith, le, y .0) in
+    n ∙ rw (one, y .1) refl
+
+-- at step 3 step 1 has ended well
+late-one : (step : ℕ) (f : Found) → Stage step f → step ≡ 3 → (one : StepOne) × (f .first ≡ Option.some one)
+late-one step f (Stage.early l e) z = absurd (omega arith)
+late-one step f (Stage.between l x e) z = absurd (omega arith)
+late-one step f (Stage.late l x e) z = (x, e)
+
+grants : (r : Reading) (m : List ℕ) → Invariant r m → standing (finding r) ≡ 1 → Granted r
+unfolding finding standingOf
+grants r m i e =
+    let mode = r .opening .mode in
+    let o = r .outcomes in
+    let j = i .judged in
+    let k = stands (not (eqb (causeOf (r .course .cause) o) 0)) (eqb (r .course .step) 3 && allPassed mode o) e in
+    let last : r .course .step ≡ 3 = eqb-true (r .course .step) 3 (and-left _ _ k) in
+    let p = passed-at mode o (and-right (eqb (r .course .step) 3) (allPassed mode o) k) in
+    let x = late-one (r .course .step) (r .found) (i .stage) last in
+    let one = x .0 in
+    let own : ownFascn mode (r .found .first) ≡ fascnIn mode (one .joined) = ap (ownFascn mode) (x .1) in
+    record {
+      all-read = last;
+      one = one;
+      read = x .1;
+      in-time = in-time-by _ _ (sym (expiry-judged j (x .1)) ∙ p 2 (omega arith) (needs-both mode .0));
+      not-listed = not-listed-by _ _ (sym (list-judged j (x .1)) ∙ p 3 (omega arith) (needs-both mode .1));
+      verdicts = λ kind good n. rw (← own) (heard-yes kind _ _ _ _ (j .verdicts kind good) n (p (place-of kind) (placed kind good .low) (rw (placed kind good .next) n)));
+    }
+
+-- ---- the standing, from granted
+
+-- where no outcome is 3 or 4, no check is the lowest that failed
+none-failed : (c : ℕ) (o : List ℕ) → ((i : ℕ) → i < length o → (eqb (getD o i 0) failed || eqb (getD o i 0) otherCard) ≡ false) → lowestFrom c o ≡ 0
+unfolding lowestFrom
+none-failed c [] h = refl
+none-failed c (v ∷ o) h = rw (h 0 (omega arith)) (none-failed (suc c) o (λ i l. h (suc i) (omega arith)))
+
+-- what a verdict says, and of which bytes
+abbrev said : Option Verdict → ℕ × List ℕ
+said Option.none = (0, [])
+said (Option.some v) = (v .says, v .fascn)
+
+-- the outcome of a kind whose verdict, where it is needed, was a yes on the card's own bytes
+yes-heard : (kind : ℕ) (needed : Bool) (own : List ℕ) (v : Option Verdict) (o : ℕ) → Heard kind needed own v o
+    → (needed ≡ true → v ≡ Option.some (record { kind = kind; says = 1; fascn = own })) → o ≡ cond needed passed unneeded
+unfolding verdictOutcome
+yes-heard kind false own v o (Heard.unheard n e) h = e
+yes-heard kind false own v o (Heard.heard says fascn n c le e) h = clash c
+yes-heard kind true own v o (Heard.unheard n e) h = let q : _≡_ {A = ℕ} 0 1 = ap (λ (w : Option Verdict). said w .0) (sym n ∙ h refl) in absurd (omega arith)
+yes-heard kind true own v o (Heard.heard says fascn n c le e) h =
+    let z = sym (ap said n) ∙ ap said (h refl) in
+    let one : says ≡ 1 = ap (λ (p : ℕ × List ℕ). p .0) z in
+    let same : fascn ≡ own = ap (λ (p : ℕ × List ℕ). p .1) z in
+    e ∙ rw (one, same, same-refl own) refl
+
+-- a law of the six places, place by place
+six : (P : ℕ → Type 0) → P 0 → P 1 → P 2 → P 3 → P 4 → P 5 → (i : ℕ) → i < checks → P i
+six P a b c d e f zero h = a
+six P a b c d e f (suc zero) h = b
+six P a b c d e f (suc (suc zero)) h = c
+six P a b c d e f (suc (suc (suc zero))) h = d
+six P a b c d e f (suc (suc (suc (suc zero)))) h = e
+six P a b c d e f (suc (suc (suc (suc (suc zero))))) h = f
+six P a b c d e f (suc (suc (suc (suc (suc (suc i)))))) h = absurd (omega arith)
+
+-- every outcome is then 2 where the check is needed, and 0 elsewhere
+settled : (r : Reading) (m : List ℕ) → Invariant r m → Granted r → (i : ℕ) → i < checks → getD (r .outcomes) i 0 ≡ cond (needs (r .opening .mode) (i + 1)) passed unneeded
+unfolding checkOf expiryOutcome listOutcome
+settled r m i g =
+    let mode = r .opening .mode in
+    let o = r .outcomes in
+    let one = g .one in
+    let j = i .judged in
+    let own : ownFascn mode (r .found .first) ≡ fascnIn mode (one .joined) = ap (ownFascn mode) (g .read) in
+    let by-kind : (kind : ℕ) → goodKind kind ≡ true → outcomeOf o (checkOf kind) ≡ cond (needs mode (checkOf kind)) passed unneeded =
+    λ kind good. yes-heard kind _ _ _ _ (j .verdicts kind good) (λ n. rw own (g .verdicts kind good n)) in
+    six (λ (k : ℕ). getD o k 0 ≡ cond (needs mode (k + 1)) passed unneeded) (by-kind 1 refl) (by-kind 2 refl)
+    (rw (needs-both mode .0) (expiry-judged j (g .read) ∙ rw (le-leb _ _ (g .in-time)) refl)) (rw (needs-both mode .1) (list-judged j (g .read) ∙ rw (g .not-listed) refl)) (by-kind 3 refl) (by-kind 4 refl)
+
+passes : (b : Bool) → (not b || eqb (cond b passed unneeded) passed) ≡ true
+passes true = refl
+passes false = refl
+
+sound : (b : Bool) → (eqb (cond b passed unneeded) failed || eqb (cond b passed unneeded) otherCard) ≡ false
+sound true = refl
+sound false = refl
+
+granted : (r : Reading) (m : List ℕ) → Invariant r m → Granted r → standing (finding r) ≡ 1
+unfolding finding standingOf causeOf allPassed
+granted r m i g =
+    let mode = r .opening .mode in
+    let o = r .outcomes in
+    let s = settled r m i g in
+    let low : lowestFrom 1 o ≡ 0 = none-failed 1 o (λ k h. rw (s k (rw (i .judged .six) at h)) (sound (needs mode (k + 1)))) in
+    let all-passed : allPassed mode o ≡ true = all-of _ checks (λ k h. rw (s k h) (passes (needs mode (k + 1)))) in
+    rw (g .all-read, i .course-good .no-cause (g .all-read), low, all-passed) refl
+
+-- the standing is 1 exactly where the calls say granted
+pub granted-iff : (r : Reading) (m : List ℕ) → Invariant r m → (standing (finding r) ≡ 1) ↔ Granted r
+granted-iff r m i = (grants r m i, granted r m i)

@@ -1,0 +1,183 @@
+-- The promise as the contracts carry it: what each call gives and leaves, for every history that leads to its session and buffer.
+-- Assumes nothing.
+use mathlib.Core.Path.{_≡_, refl, sym, ap, ap₂, _∙_}
+use mathlib.Core.Bool.{Bool, true, false, cond}
+use mathlib.Core.Logic.{_↔_}
+use mathlib.Core.List.{List, [], _∷_, _++_}
+use Prim.Native.Nat.{ℕ, _≤_}
+use native.Mathlib.Omega.{arith}
+use borrow.Author.Tests.{eqb-true, eqb-false, not-false, le-ltb}
+use lib.Dec.{eqb, ltb}
+use lib.ListN.{length, getD, take, drop}
+use lib.Seq.{take-at}
+use Rattle.card.specs.Range.{front}
+use Rattle.card.specs.Date.{realDate}
+use Rattle.card.proofs.RangeLaws.{front-at}
+use Rattle.session.specs.Tables.{goodMode, stampSize}
+use Rattle.session.specs.Condition.{openConditions}
+use Rattle.session.specs.Reading.{refusedBy}
+use Rattle.session.specs.Finding.{Finding, finding, standing, stampOf}
+use Rattle.session.specs.Operation.{replyNumber, given, commandGiven, dead, opened, openRefusal, openOf, commandOf, commandBuffer, answerRefusal, answerOf, answerBuffer, verdictOf, fieldOf, stampAnswer, stampBuffer}
+use Rattle.session.specs.Promise.{Call, told, Host, numberOf, after, run, Bytes, LentNow, Lent, goodOpening, History, start, now, readingOf, stampFor, GoesOn, OpenKept, CommandKept, AnswerKept, VerdictKept, FieldKept, StampKept}
+use Rattle.session.specs.declared.state.Session.{Session}
+use Rattle.session.specs.declared.state.Answered.{Answered}
+use Rattle.session.specs.declared.state.Commanded.{Commanded}
+use Rattle.session.proofs.TestLaws.{and-both}
+use Rattle.session.proofs.ConditionLaws.{none-fit}
+use Rattle.session.proofs.StampLaws.{stamp-length, stamp-second}
+use Rattle.session.proofs.RunLaws.{number-is}
+use Rattle.session.proofs.PromiseLaws.{reached, promise, apart}
+
+-- ---- one call more
+
+run-more : (cs : List Call) (h : Host) (c : Call) → run h (cs ++ (c ∷ [])) ≡ after (run h cs) c
+run-more [] h c = refl
+run-more (x ∷ cs) h c = run-more cs (after h x) c
+
+lent-more : (cs : List Call) (h : Host) (c : Call) → Lent h cs → LentNow (run h cs) c → Lent h (cs ++ (c ∷ []))
+lent-more [] h c l k = (k, tt)
+lent-more (x ∷ cs) h c l k = (l .0, lent-more cs (after h x) c (l .1) k)
+
+goes-on : (h : History) (c : Call) (s : Session) (object : List ℕ) → LentNow (now h) c → after (now h) c ≡ record { session = s; object = object } → GoesOn h c s object
+goes-on h c s object l e =
+    record {
+      history = record { opening = h .opening; good = h .good; object = h .object; calls = h .calls ++ (c ∷ []); lent = lent-more (h .calls) (start h) c (h .lent) l };
+      opening = refl;
+      first = refl;
+      calls = refl;
+      host = run-more (h .calls) (start h) c ∙ e;
+    }
+
+-- the number of a call made next is the reading's
+number-next : (h : History) (c : Call) → numberOf (now h) c ≡ refusedBy (readingOf h) (told c)
+number-next h c = let a = reached h in ap (λ (x : Host). numberOf x c) (a .same) ∙ number-is (readingOf h) (a .object) c (a .holds)
+
+-- ---- open
+
+-- an opening that no condition fits is good
+opening-good : (mode date : ℕ) (aid : List ℕ) → openRefusal mode date aid ≡ 0 → goodOpening (record { mode = mode; date = date; aid = aid }) ≡ true
+unfolding openRefusal
+opening-good mode date aid e =
+    let c = none-fit (openConditions mode date aid) refl e in
+    and-both (and-both (not-false (goodMode mode) (c .0)) (not-false (realDate date) (c .1 .0))) (rw (c .1 .1 .0))
+
+opened-zero : (k : ℕ) (s d x : Session) (n : ℕ) (b : Bool) → eqb k 0 ≡ b → (n, x) ≡ cond {A = ℕ × Session} b (0, s) (k, d) → n ≡ 0 → (k ≡ 0) × (x ≡ s)
+opened-zero k s d x n true p e z = (eqb-true k 0 p, ap (λ (y : ℕ × Session). y .1) e)
+opened-zero k s d x n false p e z = absurd (eqb-false k 0 p (sym (ap (λ (y : ℕ × Session). y .0) e) ∙ z))
+
+pub open-kept : (mode date : ℕ) (aid : List ℕ) (r : Answered) → given r ≡ openOf mode date aid → OpenKept mode date aid r
+unfolding openOf
+open-kept mode date aid r e z object =
+    let c = opened-zero (openRefusal mode date aid) (opened mode date aid) dead (r .session) (replyNumber (r .reply)) (eqb (openRefusal mode date aid) 0) refl e z in
+    record {
+      history = record { opening = record { mode = mode; date = date; aid = aid }; good = opening-good mode date aid (c .0); object = object; calls = []; lent = tt };
+      opening = refl;
+      first = refl;
+      calls = refl;
+      host = ap (λ (s : Session). record { session = s; object = object }) (sym (c .1));
+    }
+
+-- ---- command
+
+pub command-kept : (s : Session) (before left : List ℕ) (r : Commanded) → commandGiven r ≡ commandOf s (length before) → left ≡ commandBuffer s before → CommandKept s before left r
+command-kept s before left r e b h es =
+    let p = promise h in
+    let g : commandGiven r ≡ commandOf (now h .session) (length before) = e ∙ ap (λ (x : Session). commandOf x (length before)) es in
+    record {
+      number = ap (λ (x : ℕ × ℕ × Session). x .0) g ∙ p .command-number before;
+      count = ap (λ (x : ℕ × ℕ × Session). x .1) g ∙ p .command-count before;
+      bytes = b ∙ ap (λ (x : Session). commandBuffer x before) es ∙ p .command-bytes before;
+      goes-on = goes-on h (Call.command before) (r .session) (now h .object) tt (ap (λ (x : ℕ × ℕ × Session). record { session = x .2; object = now h .object }) (sym g));
+    }
+
+-- ---- answer
+
+-- what a refused answer leaves is what it was lent
+left-same : (b : Bool) (x y : List ℕ) → cond b (cond b x y) y ≡ cond b x y
+left-same true x y = refl
+left-same false x y = refl
+
+left-is : (s : Session) (object bytes : List ℕ) → cond (eqb (answerRefusal s (length object) (length bytes)) 0) (answerBuffer s object bytes) object ≡ answerBuffer s object bytes
+unfolding answerBuffer
+left-is s object bytes = left-same (eqb (answerRefusal s (length object) (length bytes)) 0) _ object
+
+pub answer-kept : (s : Session) (object bytes cancelled left : List ℕ) (r : Answered) → Bytes bytes → given r ≡ answerOf s object bytes cancelled → left ≡ answerBuffer s object bytes
+    → AnswerKept s object bytes cancelled left r
+answer-kept s object bytes cancelled left r b e w h es eo =
+    let g : given r ≡ answerOf (now h .session) object bytes cancelled = e ∙ ap (λ (x : Session). answerOf x object bytes cancelled) es in
+    let buffer : cond (eqb (answerRefusal (now h .session) (length object) (length bytes)) 0) (answerBuffer (now h .session) object bytes) (now h .object) ≡ left =
+    ap₂ (λ (x : Session) (l : List ℕ). cond (eqb (answerRefusal x (length object) (length bytes)) 0) (answerBuffer x object bytes) l) (sym es) (sym eo) ∙ left-is s object bytes ∙ sym w in
+    record {
+      number = ap (λ (x : ℕ × Session). x .0) g ∙ number-next h (Call.answer object bytes cancelled);
+      goes-on = goes-on h (Call.answer object bytes cancelled) (r .session) left (λ z. eo, b) (ap₂ (λ (x : ℕ × Session) (l : List ℕ). record { session = x .1; object = l }) (sym g) buffer);
+    }
+
+-- ---- verdict
+
+pub verdict-kept : (s : Session) (kind says : ℕ) (fascn : List ℕ) (r : Answered) → given r ≡ verdictOf s kind says fascn → VerdictKept s kind says fascn r
+verdict-kept s kind says fascn r e h es =
+    let g : given r ≡ verdictOf (now h .session) kind says fascn = e ∙ ap (λ (x : Session). verdictOf x kind says fascn) es in
+    record {
+      number = ap (λ (x : ℕ × Session). x .0) g ∙ number-next h (Call.verdict kind says fascn);
+      goes-on = goes-on h (Call.verdict kind says fascn) (r .session) (now h .object) tt (ap (λ (x : ℕ × Session). record { session = x .1; object = now h .object }) (sym g));
+    }
+
+-- ---- field
+
+pub field-kept : (s : Session) (object : List ℕ) (tag : ℕ) (value : List ℕ) → value ≡ fieldOf s object tag → FieldKept s object tag value
+field-kept s object tag value e h es eo =
+    e ∙ ap₂ (λ (x : Session) (l : List ℕ). fieldOf x l tag) es eo ∙ promise h .field-value tag
+
+-- ---- stamp
+
+room-enough : (room : ℕ) → stampSize ≤ room → eqb (cond (ltb room stampSize) 6 0) 0 ≡ true
+room-enough room h = rw (le-ltb room stampSize h)
+
+front-take : (n : ℕ) (x l : List ℕ) → length x ≡ n → take n (front x l) ≡ x
+unfolding front
+front-take n x l e = take-at x (drop (length x) l) n e
+
+pub stamp-kept : (s : Session) (before left : List ℕ) (r : Answered) → given r ≡ stampAnswer s (length before) → left ≡ stampBuffer s before → StampKept s before left r
+stamp-kept s before left r e b h es =
+    let p = promise h in
+    let f = finding (readingOf h) in
+    let size : length (stampOf f) ≡ stampSize = stamp-length (readingOf h) (reached h .object) (reached h .holds) in
+    let g : given r ≡ stampAnswer (now h .session) (length before) = e ∙ ap (λ (x : Session). stampAnswer x (length before)) es in
+    let bytes : left ≡ stampFor (readingOf h) before = b ∙ ap (λ (x : Session). stampBuffer x before) es ∙ p .stamp-bytes before in
+    let written : stampSize ≤ length before → left ≡ front (stampOf f) before = λ room. bytes ∙ ap (λ (t : Bool). cond t (front (stampOf f) before) before) (room-enough (length before) room) in
+    record {
+      number = ap (λ (x : ℕ × Session). x .0) g ∙ p .stamp-number before;
+      bytes = bytes;
+      granted = λ room. second f (ap (λ (l : List ℕ). getD l 1 0) (written room) ∙ front-at (stampOf f) before 1 (omega (arith, size)) ∙ stamp-second f) (p .granted);
+      apart = λ room u. first f (finding (readingOf u)) (ap (take stampSize) (written room) ∙ front-take stampSize (stampOf f) before size) (apart h u .stamps);
+      goes-on = goes-on h (Call.stamp before) (r .session) (now h .object) tt (ap (λ (x : ℕ × Session). record { session = x .1; object = now h .object }) (sym g));
+    }
+  where
+    second : (f : Finding) {n : ℕ} {G : Type 0} → n ≡ standing f → (standing f ≡ 1) ↔ G → (n ≡ 1) ↔ G
+    second f e (to, back) = (λ z. to (sym e ∙ z), λ z. e ∙ back z)
+
+    first : (f u : Finding) {l : List ℕ} {G : Type 0} → l ≡ stampOf f → (stampOf f ≡ stampOf u) ↔ G → (l ≡ stampOf u) ↔ G
+    first f u e (to, back) = (λ z. to (sym e ∙ z), λ z. e ∙ back z)
+
+-- ---- the clauses of each contract together
+
+pub open-both : (mode date : ℕ) (aid : List ℕ) (r : Answered) → given r ≡ openOf mode date aid → (given r ≡ openOf mode date aid) × OpenKept mode date aid r
+open-both mode date aid r e = (e, open-kept mode date aid r e)
+
+pub command-all : (s : Session) (before left : List ℕ) (r : Commanded) → (commandGiven r ≡ commandOf s (length before)) × (left ≡ commandBuffer s before)
+    → (commandGiven r ≡ commandOf s (length before)) × ((left ≡ commandBuffer s before) × CommandKept s before left r)
+command-all s before left r e = (e .0, (e .1, command-kept s before left r (e .0) (e .1)))
+
+pub answer-all : (s : Session) (object bytes cancelled left : List ℕ) (r : Answered) → Bytes bytes → (given r ≡ answerOf s object bytes cancelled) × (left ≡ answerBuffer s object bytes)
+    → (given r ≡ answerOf s object bytes cancelled) × ((left ≡ answerBuffer s object bytes) × AnswerKept s object bytes cancelled left r)
+answer-all s object bytes cancelled left r b e = (e .0, (e .1, answer-kept s object bytes cancelled left r b (e .0) (e .1)))
+
+pub verdict-both : (s : Session) (kind says : ℕ) (fascn : List ℕ) (r : Answered) → given r ≡ verdictOf s kind says fascn → (given r ≡ verdictOf s kind says fascn) × VerdictKept s kind says fascn r
+verdict-both s kind says fascn r e = (e, verdict-kept s kind says fascn r e)
+
+pub field-both : (s : Session) (object : List ℕ) (tag : ℕ) (value : List ℕ) → value ≡ fieldOf s object tag → (value ≡ fieldOf s object tag) × FieldKept s object tag value
+field-both s object tag value e = (e, field-kept s object tag value e)
+
+pub stamp-all : (s : Session) (before left : List ℕ) (r : Answered) → given r ≡ stampAnswer s (length before) → left ≡ stampBuffer s before
+    → (given r ≡ stampAnswer s (length before)) × ((left ≡ stampBuffer s before) × StampKept s before left r)
+stamp-all s before left r e b = (e, (b, stamp-kept s before left r e b))

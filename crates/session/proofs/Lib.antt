@@ -1,0 +1,57 @@
+-- The laws of this crate's definitions, from the general to the particular. A crate above cites PromiseLaws, and the clauses of the contracts.
+-- TestLaws: tests
+pub mod TestLaws
+-- ConditionLaws: lists of conditions with their numbers
+pub mod ConditionLaws
+-- BytesLaws: lists of bytes
+pub mod BytesLaws
+-- BufferLaws: the object buffer
+pub mod BufferLaws
+-- RuleLaws: the rules of an answer
+pub mod RuleLaws
+-- OutcomeLaws: outcomes
+pub mod OutcomeLaws
+-- TablesLaws: the tables that the code walks
+pub mod TablesLaws
+-- StoreLaws: copies into lent buffers
+pub mod StoreLaws
+-- RangesLaws: what a session in range tells of its values
+pub mod RangesLaws
+-- CallLaws: what open, answer, verdict, field and stamp give
+pub mod CallLaws
+-- SendLaws: what command gives
+pub mod SendLaws
+-- JudgeLaws: step 1's joined data, judged
+pub mod JudgeLaws
+-- Invariant: what holds after every call
+pub mod Invariant
+-- BeginLaws: the opening
+pub mod BeginLaws
+-- InRangeLaws: a session that stands for a reading is in range
+pub mod InRangeLaws
+-- CommandLaws: the command call
+pub mod CommandLaws
+-- GoodEndLaws: the good end of a step
+pub mod GoodEndLaws
+-- AnswerLaws: the answer call
+pub mod AnswerLaws
+-- VerdictLaws: the verdict call
+pub mod VerdictLaws
+-- FieldLaws: the field call
+pub mod FieldLaws
+-- StampLaws: the stamp, and that equal stamps have equal findings
+pub mod StampLaws
+-- GrantLaws: granted, said of the calls
+pub mod GrantLaws
+-- CountLaws: how many answers are taken
+pub mod CountLaws
+-- RunLaws: every call, and every list of calls
+pub mod RunLaws
+-- PromiseLaws: demand 3
+pub mod PromiseLaws
+-- KeptLaws: the promise as the contracts carry it
+pub mod KeptLaws
+-- SameFindingLaws: what cannot change a finding
+pub mod SameFindingLaws
+-- Twelve: document 01's worked examples
+pub mod Twelve

@@ -1,0 +1,90 @@
+-- Outcomes: the places of the checks that verdicts serve, and outcomes that stay in range.
+-- Assumes nothing.
+use mathlib.Core.Path.{_≡_, refl, sym, ap, _∙_}
+use mathlib.Core.Bool.{Bool, true, false, cond}
+use mathlib.Core.List.{List}
+use Prim.Native.Nat.{ℕ, zero, suc, _+_, _-_, _<_}
+use native.Mathlib.Omega.{arith}
+use borrow.Author.Tests.{leb-true, eqb-true, eqb-false}
+use lib.Dec.{eqb, leb}
+use lib.ListN.{length, getD, set}
+use lib.Seq.{getD-set-same, getD-set-other}
+use Rattle.card.specs.Range.{sameBytes}
+use Rattle.card.proofs.RangeLaws.{all-at, all-of}
+use Rattle.session.specs.Tables.{checks, goodKind, checkOf, verdictOutcome, expiryOutcome, listed, listOutcome}
+use Rattle.session.specs.Ranges.{outcomesInRange}
+use Rattle.session.proofs.TestLaws.{clash, and-right}
+
+-- ---- the places of the checks that verdicts serve
+
+-- what holds of the kinds 1 to 4
+pub each-kind : (P : ℕ → Type 0) → P 1 → P 2 → P 3 → P 4 → (kind : ℕ) → goodKind kind ≡ true → P kind
+each-kind P a b c d zero e = clash e
+each-kind P a b c d (suc zero) e = a
+each-kind P a b c d (suc (suc zero)) e = b
+each-kind P a b c d (suc (suc (suc zero))) e = c
+each-kind P a b c d (suc (suc (suc (suc zero)))) e = d
+each-kind P a b c d (suc (suc (suc (suc (suc n))))) e =
+    absurd (let l = leb-true (suc (suc (suc (suc (suc n))))) 4 (and-right (leb 1 (suc (suc (suc (suc (suc n)))))) _ e) in omega arith)
+
+abbrev pub place-of : ℕ → ℕ
+place-of kind = checkOf kind - 1
+
+-- the kind whose check has a place
+abbrev kind-of : ℕ → ℕ
+kind-of place = cond (eqb place 0) 1 (cond (eqb place 1) 2 (cond (eqb place 4) 3 4))
+
+pub record Placed (kind : ℕ) : Type 0 where
+  pub low : place-of kind < checks
+  pub next : place-of kind + 1 ≡ checkOf kind
+  pub not-expiry : _≡_ {A = ℕ} 2 (place-of kind) → ⊥
+  pub not-list : _≡_ {A = ℕ} 3 (place-of kind) → ⊥
+  pub back : kind-of (place-of kind) ≡ kind
+
+pub placed : (kind : ℕ) → goodKind kind ≡ true → Placed kind
+unfolding checkOf
+placed =
+    each-kind Placed (record { low = omega arith; next = refl; not-expiry = λ e. omega arith; not-list = λ e. omega arith; back = refl })
+    (record { low = omega arith; next = refl; not-expiry = λ e. omega arith; not-list = λ e. omega arith; back = refl })
+    (record { low = omega arith; next = refl; not-expiry = λ e. omega arith; not-list = λ e. omega arith; back = refl })
+    (record { low = omega arith; next = refl; not-expiry = λ e. omega arith; not-list = λ e. omega arith; back = refl })
+
+-- two kinds have two places
+pub places-apart : (k l : ℕ) → goodKind k ≡ true → goodKind l ≡ true → place-of k ≡ place-of l → k ≡ l
+places-apart k l p q e = sym (placed k p .back) ∙ ap kind-of e ∙ placed l q .back
+
+-- ---- outcomes are 0 to 4
+
+pub verdict-small : (own : List ℕ) (says : ℕ) (fascn : List ℕ) → leb (verdictOutcome own says fascn) 4 ≡ true
+unfolding verdictOutcome
+verdict-small own says fascn = go (eqb says 0) (sameBytes fascn own)
+  where
+    go : (x y : Bool) → leb (cond x 3 (cond y 2 4)) 4 ≡ true
+    go true y = refl
+    go false true = refl
+    go false false = refl
+
+-- outcomes stay in range where one that is in range is set
+pub set-in-range : (o : List ℕ) (p v : ℕ) → p < length o → leb v 4 ≡ true → outcomesInRange o ≡ true → outcomesInRange (set o p v) ≡ true
+unfolding outcomesInRange
+set-in-range o p v h s e = all-of (λ i. leb (getD (set o p v) i 0) 4) checks (λ i l. go i l (eqb i p) refl)
+  where
+    go : (i : ℕ) → i < checks → (b : Bool) → eqb i p ≡ b → leb (getD (set o p v) i 0) 4 ≡ true
+    go i l true q = rw (eqb-true i p q, getD-set-same o p v 0 h) s
+    go i l false q = rw (getD-set-other o p i v 0 (eqb-false i p q)) (all-at (λ i. leb (getD o i 0) 4) checks e i l)
+
+pub expiry-small : (date expiry : ℕ) → leb (expiryOutcome date expiry) 4 ≡ true
+unfolding expiryOutcome
+expiry-small date expiry = go (leb date expiry)
+  where
+    go : (b : Bool) → leb (cond b 2 3) 4 ≡ true
+    go true = refl
+    go false = refl
+
+pub list-small : (key : ℕ) (cancelled : List ℕ) → leb (listOutcome key cancelled) 4 ≡ true
+unfolding listOutcome
+list-small key cancelled = go (listed key cancelled)
+  where
+    go : (b : Bool) → leb (cond b 3 2) 4 ≡ true
+    go true = refl
+    go false = refl

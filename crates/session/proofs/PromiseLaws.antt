@@ -1,0 +1,89 @@
+-- Demand 3, proved: the promise of every history, and of every two.
+-- Assumes nothing.
+use mathlib.Core.Path.{_≡_, refl, sym, ap, _∙_}
+use mathlib.Core.Bool.{Bool, true, false, cond}
+use mathlib.Core.List.{List, [], _∷_}
+use Prim.Native.Nat.{ℕ, zero, suc}
+use native.Mathlib.Omega.{arith}
+use lib.Dec.{eqb}
+use lib.ListN.{length, getD}
+use Rattle.session.specs.Condition.{commandConditions, answerConditions, verdictConditions, fieldConditions, stampConditions}
+use Rattle.session.specs.Reading.{Told, Reading, begins, nextCommand, commandRefused, answerRefused, verdictRefused, refusedBy, read, refusals}
+use Rattle.session.specs.Ranges.{inRange}
+use Rattle.session.specs.Operation.{opened, commandOf, commandBuffer, fieldOf, stampBuffer}
+use Rattle.session.specs.Promise.{Call, Host, numberOf, numbers, History, start, now, feed, readingOf, stampFor, countFor, Promise, Apart}
+use Rattle.session.specs.declared.state.Session.{Session}
+use Rattle.session.proofs.ConditionLaws.{not-named}
+use Rattle.session.proofs.Invariant.{session-of, Invariant, Reaches}
+use Rattle.session.proofs.InRangeLaws.{in-range}
+use Rattle.session.proofs.CommandLaws.{command-gives, command-leaves}
+use Rattle.session.proofs.FieldLaws.{field-is}
+use Rattle.session.proofs.GrantLaws.{granted-iff}
+use Rattle.session.proofs.StampLaws.{stamp-is, stamps-iff}
+use Rattle.session.proofs.CountLaws.{answers-step, answers-all}
+use Rattle.session.proofs.BeginLaws.{begins-holds}
+use Rattle.session.proofs.RunLaws.{number-is, stamp-number, on-list, numbers-are}
+
+-- the host of a history has come to its reading
+pub reached : (h : History) → Reaches (now h) (readingOf h)
+unfolding opened
+reached h = on-list (h .calls) (begins (h .opening)) (h .object) (begins-holds (h .opening) (h .object) (h .good)) (h .lent)
+
+all-numbers : (h : History) → numbers (start h) (h .calls) ≡ refusals (begins (h .opening)) (feed h)
+unfolding opened
+all-numbers h = numbers-are (h .calls) (begins (h .opening)) (h .object) (begins-holds (h .opening) (h .object) (h .good)) (h .lent)
+
+-- ---- number 4 is none of the reading's
+
+not-four : (r : Reading) (t : Told) → refusedBy r t ≡ 4 → ⊥
+unfolding commandRefused answerRefused verdictRefused
+not-four r (Told.command room) = not-named 4 (commandConditions (r .course .step) (r .course .cause) (r .course .outstanding) room (length (nextCommand r))) refl
+not-four r (Told.answer size bytes cancelled) = not-named 4 (answerConditions (r .course .outstanding) size (length bytes)) refl
+not-four r (Told.verdict kind says fascn) = not-named 4 (verdictConditions (r .opening .mode) (r .course .step) (r .outcomes) kind says fascn) refl
+not-four r (Told.field size tag) = not-named 4 (fieldConditions size) refl
+not-four r (Told.stamp room) = not-named 4 (stampConditions room) refl
+
+never-four : (ts : List Told) (r : Reading) (i : ℕ) → getD (refusals r ts) i 0 ≡ 4 → ⊥
+never-four [] r i e = let z : _≡_ {A = ℕ} 0 4 = e in omega arith
+never-four (t ∷ ts) r zero e = not-four r t e
+never-four (t ∷ ts) r (suc i) e = never-four ts (read r t) i e
+
+-- ---- the calls made next, on the session that stands for a reading
+
+count-is : (k n : ℕ) (x y : Session) (b : Bool) → (cond {A = ℕ × ℕ × Session} b (0, n, x) (k, 0, y)) .1 ≡ cond b n 0
+count-is k n x y true = refl
+count-is k n x y false = refl
+
+command-count : (r : Reading) (m : List ℕ) (room : ℕ) → Invariant r m → commandOf (session-of r) room .1 ≡ countFor r room
+command-count r m room i = rw (command-gives r m room i) (count-is _ _ _ _ (eqb (commandRefused r room) 0))
+
+stamp-leaves : (r : Reading) (m out : List ℕ) → Invariant r m → stampBuffer (session-of r) out ≡ stampFor r out
+unfolding stampBuffer
+stamp-leaves r m out i = rw (stamp-number r m (length out) i, stamp-is r m i)
+
+-- ---- the promise
+
+pub promise : (h : History) → Promise h
+promise h =
+    let a = reached h in
+    let r = readingOf h in
+    let m = a .object in
+    let i = a .holds in
+    let s : now h .session ≡ session-of r = ap (λ (x : Host). x .session) (a .same) in
+    record {
+      stamp-number = λ out. ap (λ (x : Host). numberOf x (Call.stamp out)) (a .same) ∙ number-is r m (Call.stamp out) i;
+      stamp-bytes = λ out. ap (λ (x : Session). stampBuffer x out) s ∙ stamp-leaves r m out i;
+      command-number = λ out. ap (λ (x : Host). numberOf x (Call.command out)) (a .same) ∙ number-is r m (Call.command out) i;
+      command-count = λ out. ap (λ (x : Session). commandOf x (length out) .1) s ∙ command-count r m (length out) i;
+      command-bytes = λ out. ap (λ (x : Session). commandBuffer x out) s ∙ command-leaves r m out i;
+      field-value = λ tag. ap (λ (x : Host). fieldOf (x .session) (x .object) tag) (a .same) ∙ field-is r m tag i;
+      refused = all-numbers h;
+      never-four = λ n e. never-four (feed h) (begins (h .opening)) n (ap (λ (l : List ℕ). getD l n 0) (sym (all-numbers h)) ∙ e);
+      in-range = ap inRange s ∙ in-range r m i;
+      granted = granted-iff r m i;
+      answers-step = λ step. answers-step step (h .opening) (feed h);
+      answers-all = answers-all (h .opening) (feed h);
+    }
+
+pub apart : (h u : History) → Apart h u
+apart h u = record { stamps = stamps-iff (readingOf h) (readingOf u) (reached h .object) (reached u .object) (reached h .holds) (reached u .holds) }

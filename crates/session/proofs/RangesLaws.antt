@@ -1,0 +1,96 @@
+-- What a session in range tells of its values, one law for each range that a proof cites.
+-- Assumes nothing.
+use mathlib.Core.Path.{_≡_}
+use mathlib.Core.Bool.{Bool, true, false, cond, _&&_, _||_, and-eq-true-iff}
+use mathlib.Core.List.{List, [], _∷_}
+use Prim.Native.Nat.{ℕ, suc, _+_, _-_, _≤_, _<_}
+use native.Mathlib.Omega.{arith}
+use borrow.Author.Tests.{leb-true}
+use lib.Dec.{eqb, leb}
+use lib.ListN.{length, getD}
+use Rattle.card.specs.Date.{realDate}
+use Rattle.card.specs.Object.{empty, mostFields, rowsOf, partIn}
+use Rattle.card.specs.declared.object.Kind.{Kind}
+use Rattle.card.specs.declared.object.Kind.the-variants.{Signed, Unsigned, Fingers}
+use Rattle.card.specs.declared.object.Part.{Part}
+use Rattle.card.proofs.RangeLaws.{all-at}
+use Rattle.session.specs.Tables.{goodMode, baseOf, kindAt, objectSize}
+use Rattle.session.specs.Ranges.{settingInRange, stepInRange, causeInRange, outstandingInRange, progressInRange, outcomesInRange, partInside, partsInside, cardInRange, inRange}
+use Rattle.session.specs.Operation.{partFor}
+use Rattle.session.specs.declared.state.Session.{Session}
+
+-- ---- the groups
+
+-- both tests of two pass
+pub both : (a b : Bool) → (a && b) ≡ true → (a ≡ true) × (b ≡ true)
+both a b = and-eq-true-iff a b .0
+
+-- setting, progress, outcomes and card
+pub groups-in-range : (s : Session) → inRange s ≡ true
+    → ((settingInRange (s .setting) ≡ true) × (progressInRange (s .setting .mode) (s .progress) ≡ true)) × ((outcomesInRange (s .outcomes) ≡ true) × (cardInRange (s .card) ≡ true))
+unfolding inRange
+groups-in-range s e = let h = both _ _ e in (both _ _ (h .0), both _ _ (h .1))
+
+-- ---- single values
+
+pub aid-in-range : (s : Session) → inRange s ≡ true → (5 ≤ s .setting .«aid_len») × (s .setting .«aid_len» ≤ 16)
+aid-in-range s e =
+    let n = s .setting .«aid_len» in
+    let fits : leb 5 n && leb n 16 ≡ true = both (goodMode (s .setting .mode) && realDate (s .setting .date)) _ (groups-in-range s e .0 .0) .1 in
+    let h = both (leb 5 n) (leb n 16) fits in
+    (leb-true 5 n (h .0), leb-true n 16 (h .1))
+
+pub filled-in-range : (s : Session) → inRange s ≡ true → s .progress .filled ≤ 4096
+filled-in-range s e =
+    let p = s .progress in
+    let step = stepInRange (s .setting .mode) (p .step) in
+    let full : step && leb (p .filled) 4096 ≡ true = both (step && leb (p .filled) 4096) (causeInRange (p .cause) && outstandingInRange (p .outstanding) (p .step) (p .cause)) (groups-in-range s e .0 .1) .0 in
+    leb-true (p .filled) 4096 (both step (leb (p .filled) 4096) full .1)
+
+-- the parts of step 1 and those of step 2
+pub parts-in-range : (s : Session) → inRange s ≡ true → (partsInside (baseOf 1) (s .card .first) ≡ true) × (partsInside (baseOf 2) (s .card .second) ≡ true)
+parts-in-range s e =
+    let c = s .card in
+    both (partsInside (baseOf 1) (c .first)) (partsInside (baseOf 2) (c .second)) (both (eqb (c .expiry) 0 || realDate (c .expiry)) _ (groups-in-range s e .1 .1) .1)
+
+-- ---- parts
+
+-- a part that passes its test ends inside the object buffer
+pub part-ends : (base : ℕ) (p : Part) → base ≤ objectSize → partInside base p ≡ true → base + (p .start + p .len) ≤ objectSize
+part-ends base p h e =
+    let t = both (leb (p .start) (objectSize - base)) (leb (p .len) (objectSize - base - p .start)) e in
+    omega (arith, h, leb-true (p .start) (objectSize - base) (t .0), leb-true (p .len) (objectSize - base - p .start) (t .1))
+
+-- and so does the part of the field with a tag, where as many parts pass as there are rows
+picked-ends : (base : ℕ) (rs : List _) (ps : List Part) (tag : ℕ) → base ≤ objectSize → ((i : ℕ) → i < length rs → partInside base (getD ps i empty) ≡ true)
+    → let p = partIn rs ps tag in base + (p .start + p .len) ≤ objectSize
+unfolding partIn
+picked-ends base [] ps tag h t = omega arith
+picked-ends base (r ∷ rs) [] tag h t = omega arith
+picked-ends base (r ∷ rs) (p ∷ ps) tag h t = by-tag (eqb (r .0) tag) (picked-ends base rs ps tag h (λ i l. t (suc i) (omega (arith, l))))
+  where
+    by-tag : (k : Bool) → let q = partIn rs ps tag in base + (q .start + q .len) ≤ objectSize → let w = cond k p (partIn rs ps tag) in base + (w .start + w .len) ≤ objectSize
+    by-tag true later = part-ends base p h (t 0 (omega arith))
+    by-tag false later = later
+
+-- an object has five rows at most
+rows-most : (k : Kind) → length (rowsOf k) ≤ mostFields
+unfolding rowsOf
+rows-most Signed = omega arith
+rows-most Unsigned = omega arith
+rows-most Fingers = omega arith
+
+parts-end : (base : ℕ) (k : Kind) (ps : List Part) (tag : ℕ) → base ≤ objectSize → partsInside base ps ≡ true
+    → let p = partIn (rowsOf k) ps tag in base + (p .start + p .len) ≤ objectSize
+unfolding partsInside
+parts-end base k ps tag h e =
+    picked-ends base (rowsOf k) ps tag h (λ i l. all-at (λ (j : ℕ). partInside base (getD ps j empty)) mostFields e i (omega (arith, l, rows-most k)))
+
+-- the field with a tag of a step's object lies inside the object buffer
+pub part-in-range : (s : Session) (step tag : ℕ) → inRange s ≡ true
+    → baseOf step + (partFor s step tag .start + partFor s step tag .len) ≤ objectSize
+part-in-range s step tag e = by-step (eqb step 2) (kindAt (s .setting .mode) step)
+  where
+    by-step : (b : Bool) (k : Kind) → let p = partIn (rowsOf k) (cond b (s .card .second) (s .card .first)) tag in cond b 4096 0 + (p .start + p .len) ≤ objectSize
+    by-step true k = parts-end 4096 k (s .card .second) tag (omega arith) (parts-in-range s e .1)
+    by-step false k = parts-end 0 k (s .card .first) tag (omega arith) (parts-in-range s e .0)

@@ -1,0 +1,30 @@
+-- The tests that a mode needs a check, and the lowest failed check, from the last check back to the first.
+-- Assumes nothing.
+use mathlib.Core.Path.{_≡_, _∙_}
+use mathlib.Core.Bool.{Bool, true, false, cond, _||_, or-false, or-assoc}
+use mathlib.Core.List.{List}
+use Prim.Native.Nat.{ℕ, _+_, _<_}
+use native.Mathlib.Numerals.{add-one}
+use lib.Dec.{eqb}
+use lib.ListN.{length, getD, drop}
+use lib.Seq.{drop-cons}
+use Rattle.session.specs.Tables.{failed, otherCard, lowestFrom}
+
+-- six tests, one of which passes, as code and definition group them
+pub six : (a b c d e f : Bool) → (((((a || b) || c) || d) || e) || f) ≡ (a || (b || (c || (d || (e || (f || false))))))
+six a b c d e f = simp (or-assoc, or-false)
+
+-- the check whose outcome stands at place j comes before those after it
+lowest-at : (o : List ℕ) (j : ℕ) → j < length o
+    → lowestFrom (j + 1) (drop j o) ≡ cond (eqb (getD o j 0) failed || eqb (getD o j 0) otherCard) (j + 1) (lowestFrom (j + 1 + 1) (drop (j + 1) o))
+unfolding lowestFrom
+lowest-at o j h = rw (drop-cons o j 0 h, add-one (j + 1), add-one j)
+
+-- it failed: it is the lowest
+pub lowest-here : (o : List ℕ) (j i : ℕ) → i ≡ j + 1 → j < length o → (eqb (getD o j 0) failed || eqb (getD o j 0) otherCard) ≡ true → i ≡ lowestFrom (j + 1) (drop j o)
+lowest-here o j i e h t = rw (lowest-at o j h, t) e
+
+-- it did not fail: the lowest is that of those after it
+pub lowest-later : (o : List ℕ) (j i : ℕ) {lowest : ℕ} → i ≡ j + 1 → j < length o → (eqb (getD o j 0) failed || eqb (getD o j 0) otherCard) ≡ false
+    → lowest ≡ lowestFrom (i + 1) (drop i o) → lowest ≡ lowestFrom (j + 1) (drop j o)
+lowest-later o j i e h t p = p ∙ rw (lowest-at o j h, t, e)

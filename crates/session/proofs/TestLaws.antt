@@ -1,0 +1,36 @@
+-- Tests: what a test of several gives, and a choice made on both sides by one test.
+-- Assumes nothing.
+use mathlib.Core.Path.{_≡_, refl, subst}
+use mathlib.Core.Bool.{Bool, true, false, cond, _&&_, _||_}
+
+abbrev Untrue : Bool → Type 0
+Untrue true = ⊥
+Untrue false = Unit
+
+-- false is not true
+pub clash : {P : Type 0} → false ≡ true → P
+clash e = absurd (subst Untrue e tt)
+
+pub and-left : (a b : Bool) → a && b ≡ true → a ≡ true
+and-left true b e = refl
+and-left false b e = e
+
+pub and-right : (a b : Bool) → a && b ≡ true → b ≡ true
+and-right true b e = e
+and-right false b e = clash e
+
+pub and-both : {a b : Bool} → a ≡ true → b ≡ true → a && b ≡ true
+and-both {a} {b} p q = rw (p, q)
+
+pub or-left : (a b : Bool) → a || b ≡ false → a ≡ false
+or-left true b e = clash (rw e)
+or-left false b e = refl
+
+pub or-right : (a b : Bool) → a || b ≡ false → b ≡ false
+or-right true b e = clash (rw e)
+or-right false b e = e
+
+-- a choice that is made on both sides by one test
+pub by-test : {A B : Type 0} (P : A → B → Type 0) (x y : A) (u v : B) (b : Bool) → (b ≡ true → P x u) → (b ≡ false → P y v) → P (cond b x y) (cond b u v)
+by-test P x y u v true f g = f refl
+by-test P x y u v false f g = g refl

@@ -1,0 +1,89 @@
+-- Document 01's proofreader's twelve, and the stamp of its printed example: one table, and one theorem over it.
+-- Assumes nothing.
+use mathlib.Core.Path.{_≡_, refl}
+use mathlib.Core.Bool.{cond}
+use mathlib.Core.List.{List, [], _∷_, _++_, map}
+use Prim.Native.Nat.{ℕ}
+use lib.ListN.{replicate}
+use Rattle.card.specs.Range.{listOf, run, all, number, xorOf, sameBytes}
+use Rattle.card.specs.Date.{daysIn, realDate, digitAt, spelled, goodDate, dateOf}
+use Rattle.card.specs.Template.{tlvsFrom, tlvsOf, every, wholeTo, lengthsOf, justOne, goodValue, goodFrom, templateOf}
+use Rattle.card.specs.Command.{getResponseBytes, selectBytes, getDataBytes, statusOf}
+use Rattle.card.specs.Object.{rowsOf, fieldFrom, fieldOf, fieldsFrom, fieldsAnswer, objectFrom, objectOf, partIn, bytesAt, fieldValue, objectTag}
+use Rattle.card.specs.Tlv.{tagSize, tagNumber, lengthSize, lengthOf, endingOf, afterTag, headerOf, onlyFrom, onlyOf}
+use Rattle.card.specs.declared.object.Kind.the-variants.{Unsigned}
+use Rattle.card.specs.Fascn.{bitAt, valueAt, oddAt, valuesIn, digitsFrom, marksFrom, decimalAt, checkOf, unpackRefusal, unpackOf, charBit, sentBit, bytesOf, valuesFrom, valuesOf, packRefusal, packOf, keyOf}
+use Rattle.session.specs.Tables as tables
+use Rattle.session.specs.Reading.{Opening, Told, Reading, begins, nextCommand, commandRefused, answerRefused, goodEnd, judged, answered, verdictRefused, read, reading}
+use Rattle.session.specs.Finding.{finding, stampOf}
+
+-- The sample FASC-N without its last byte, and its digits.
+sample : List ℕ
+sample =
+    0xd4 ∷ 0x32 ∷ 0x48 ∷ 0x58 ∷ 0x21 ∷ 0x0c ∷ 0x2d ∷ 0x31 ∷ 0x71 ∷ 0xb5 ∷ 0x25 ∷ 0xa1 ∷ 0x68 ∷ 0x5a ∷ 0x08 ∷ 0xc9 ∷ 0x2a ∷ 0xde
+    ∷ 0x0a ∷ 0x61 ∷ 0x84 ∷ 0x32 ∷ 0x48 ∷ 0x43 ∷ []
+
+digits : List ℕ
+digits =
+    1 ∷ 3 ∷ 4 ∷ 1 ∷ 0 ∷ 0 ∷ 0 ∷ 1 ∷ 9 ∷ 8 ∷ 7 ∷ 6 ∷ 5 ∷ 4 ∷ 1 ∷ 1 ∷ 1 ∷ 2 ∷ 3 ∷ 4 ∷ 5 ∷ 6 ∷ 7 ∷ 8 ∷ 9 ∷ 0 ∷ 1 ∷ 1 ∷ 3 ∷ 4 ∷ 1 ∷ 1 ∷ []
+
+-- What unpack answers, as a list: the number, then the digits.
+answer : List ℕ → List ℕ
+answer s = unpackOf s .0 ∷ unpackOf s .1
+
+-- Whether a number is a real date: 1 for real.
+real : ℕ → List ℕ
+real n = cond (realDate n) 1 0 ∷ []
+
+-- The fields of the unsigned object of document 01's gate session: 30 with the sample FASC-N, 35 with 20110410, FE.
+fields : List ℕ
+fields =
+    (0x30 ∷ 0x19 ∷ []) ++ sample ++ (0xe2 ∷ 0x35 ∷ 0x08 ∷ 0x32 ∷ 0x30 ∷ 0x31 ∷ 0x31 ∷ 0x30 ∷ 0x34 ∷ 0x31 ∷ 0x30 ∷ 0xfe ∷ 0x00 ∷ [])
+
+-- What the object reader answers of an unsigned object, as a list: the cause, then start and length of the fields 30, 34 and 35.
+place : List ℕ → ℕ → List ℕ
+place s tag = let p = partIn (rowsOf Unsigned) (objectOf Unsigned s .1) tag in p .start ∷ p .len ∷ []
+
+object : List ℕ → List ℕ
+object s = (objectOf Unsigned s .0 ∷ []) ++ place s 0x30 ++ place s 0x34 ++ place s 0x35
+
+-- The opening and the calls of document 01's example, with another date: an answer follows each command call.
+opening : ℕ → Opening
+opening date = record { mode = 2; date = date; aid = 0xA0 ∷ 0x00 ∷ 0x00 ∷ 0x03 ∷ 0x67 ∷ 0x20 ∷ 0x00 ∷ 0x00 ∷ 0x01 ∷ 0x01 ∷ 0x03 ∷ [] }
+
+answered-by : List ℕ → List Told → List Told
+answered-by bytes ts = Told.command 261 ∷ Told.answer 8192 bytes [] ∷ ts
+
+example : ℕ → Reading
+unfolding answered-by opening sample fields
+example date =
+    reading (begins (opening date))
+    (answered-by (0x61 ∷ 0x08 ∷ 0x4F ∷ 0x06 ∷ 0x20 ∷ 0x00 ∷ 0x00 ∷ 0x01 ∷ 0x01 ∷ 0x03 ∷ 0x90 ∷ 0x00 ∷ [])
+    (answered-by ((0x53 ∷ 0x27 ∷ []) ++ fields ++ (0x90 ∷ 0x00 ∷ []))
+    (Told.verdict 3 1 (sample ++ (0xe2 ∷ [])) ∷ [])))
+
+-- What the definitions give, beside what the paper says: a, its check value, b, c; d, e, f, g; h, with 53 27 and with 53 81 27, where all starts are one more; i; j and k,
+-- the outcome of check 3 where the example is opened on its expiry, 20110410, and a day later; l; and the example's stamp.
+pub table : List (List ℕ × List ℕ)
+unfolding sample digits fields opening answered-by
+table =
+    (answer (sample ++ (0xe2 ∷ [])), 0 ∷ digits)
+    ∷ (checkOf (valuesIn (sample ++ (0xe2 ∷ []))) ∷ [], 8 ∷ [])
+    ∷ (answer (sample ++ (0xe3 ∷ [])), 16 ∷ replicate 32 0)
+    ∷ (answer sample, 15 ∷ replicate 32 0)
+    ∷ (real 20240229, 1 ∷ [])
+    ∷ (real 20230229, 0 ∷ [])
+    ∷ (real 21000229, 0 ∷ [])
+    ∷ (real 20000229, 1 ∷ [])
+    ∷ (object (0x53 ∷ 0x27 ∷ fields), 0 ∷ 4 ∷ 25 ∷ 0 ∷ 0 ∷ 31 ∷ 8 ∷ [])
+    ∷ (object (0x53 ∷ 0x81 ∷ 0x27 ∷ fields), 0 ∷ 5 ∷ 25 ∷ 0 ∷ 0 ∷ 32 ∷ 8 ∷ [])
+    ∷ (object (0x53 ∷ 0x80 ∷ fields), 20 ∷ replicate 6 0)
+    ∷ (tables.outcomeOf (example 20110410 .outcomes) 3 ∷ [], 2 ∷ [])
+    ∷ (tables.outcomeOf (example 20110411 .outcomes) 3 ∷ [], 3 ∷ [])
+    ∷ (nextCommand (reading (begins (opening 20110410)) (answered-by (0x61 ∷ 0x00 ∷ []) [])), 0x00 ∷ 0xC0 ∷ 0x00 ∷ 0x00 ∷ 0x00 ∷ [])
+    ∷ (stampOf (finding (example 20110410)), (0x02 ∷ 0x01 ∷ 0x00 ∷ 0x00 ∷ 0x00 ∷ 0x03 ∷ 0x00 ∷ 0x00 ∷ 0x02 ∷ 0x02 ∷ 0x02 ∷ 0x00 ∷ 0x01 ∷ 0x32 ∷ 0xDC ∷ 0x4A ∷ []) ++ sample ++ (0xe2 ∷ 0x01 ∷ 0x32 ∷ 0xDC ∷ 0x4A ∷ []))
+    ∷ []
+
+pub twelve : map (λ row. row .0) table ≡ map (λ row. row .1) table
+unfolding example opening answered-by tables.needs tables.checkOf tables.neededAt tables.neededOutcomes tables.verdictOutcome tables.expiryOutcome tables.listed tables.listOutcome tables.lowestFrom tables.causeOf tables.allPassed tables.standingOf tables.commandBytes tables.ruleCause tables.objectCause tables.joinedCause tables.layout commandRefused answerRefused goodEnd judged answered verdictRefused read finding stampOf number sameBytes digitAt spelled goodDate dateOf tlvsFrom tlvsOf every wholeTo lengthsOf justOne goodValue goodFrom templateOf getResponseBytes selectBytes getDataBytes statusOf bytesAt fieldValue objectTag charBit sentBit bytesOf valuesFrom valuesOf packRefusal packOf keyOf table answer real object place partIn realDate daysIn objectOf objectFrom fieldsAnswer fieldsFrom fieldOf fieldFrom rowsOf onlyOf onlyFrom headerOf afterTag endingOf tagSize tagNumber lengthSize lengthOf unpackOf unpackRefusal bitAt valueAt oddAt valuesIn digitsFrom marksFrom decimalAt checkOf all listOf run xorOf
+twelve = refl

@@ -1,0 +1,37 @@
+-- `session::judge::listed` meets its contract: a turn adds its test. Assumes nothing.
+use mathlib.Core.Path.{_≡_, refl, ap}
+use mathlib.Core.Bool.{not}
+use Prim.Native.Nat.{_-_, _≤_}
+use native.Mathlib.Omega.{arith}
+use borrow.Author.Needs.{needs}
+use lib.Dec.{eqb}
+use lib.ListN.{length, getD}
+use Rattle.card.specs.Range.{all}
+use Rattle.card.proofs.RangeLaws.{all-more}
+use Rattle.session.specs.Tables.{listed}
+use Rattle.session.proofs.judge.listed.Statement.{statement}
+use Rattle.session.proofs.judge.listed.Tie as tie
+
+abbrev Inv-loop : tie.InvT-loop
+Inv-loop key cancelled absent₀ i₀ i-end absent i = (i ≤ length cancelled) × (i-end ≡ length cancelled) × (absent ≡ all i (λ j. not (eqb (getD cancelled j 0) key)))
+
+abbrev μ-loop : tie.MeasureT-loop
+μ-loop key cancelled absent₀ i₀ i-end absent i = length cancelled - i
+
+loop-holds : tie.Need-loop-holds Inv-loop μ-loop
+unfolding all
+loop-holds c = search needs
+
+loop-again : tie.Need-loop-again Inv-loop μ-loop
+loop-again c =
+    let a = c .before .before .before .args in
+    (search needs, c .before .before .loop .inv .1, all-more (λ j. not (eqb (getD (a .cancelled .now) j 0) (a .key))) (c .before .before .loop .i) (c .before .before .loop .inv .2) refl)
+
+returns : tie.Need-returns Inv-loop μ-loop
+unfolding listed
+returns c =
+    let e : c .before .loop .i ≡ length (c .before .before .args .cancelled .now) = omega arith in
+    ap not (rw e at (c .before .loop .inv .2))
+
+pub listed-spec : {M : Type 1} → statement M
+listed-spec = tie.close (tie.spec Inv-loop μ-loop loop-holds (λ c. search needs) (λ c. search needs) (λ c. search needs) (λ c. search needs) loop-again returns)

@@ -1,0 +1,10 @@
+-- `session::Session::cause_by` meets its contract. Assumes nothing.
+use borrow.Author.Needs.{needs}
+use Rattle.session.proofs.state.Session.cause_by.Statement.{statement}
+use Rattle.session.proofs.state.Session.cause_by.Tie as tie
+
+returns : tie.Need-returns
+returns c = rw (← c .before .is-response .ensures) (c .rule-cause .ensures)
+
+pub cause-by-spec : {M : Type 1} → statement M
+cause-by-spec = tie.close (tie.spec (λ c κs. search needs) (λ c κs. search needs) returns)

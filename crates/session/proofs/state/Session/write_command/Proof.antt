@@ -1,0 +1,42 @@
+-- `session::Session::write_command` meets its contract: each command is one of crate card's. Assumes nothing.
+use mathlib.Core.Path.{sym, _∙_}
+use Prim.Native.Nat.{_≤_}
+use native.Mathlib.Omega.{arith}
+use borrow.Author.Needs.{needs}
+use lib.ListN.{length}
+use lib.Seq.{length-take-le}
+use Rattle.session.proofs.RangesLaws.{aid-in-range}
+use Rattle.session.proofs.SendLaws.{select-next, get-data-next, get-response-next}
+use Rattle.session.proofs.state.Session.write_command.Statement.{statement}
+use Rattle.session.proofs.state.Session.write_command.Tie as tie
+
+aid-inside : (c : tie.After-sized-16) → let s = c .before .before .before .before .before .before .before .before .before .args .self in s .setting .«aid_len» ≤ length (s .setting .aid)
+aid-inside c = omega (arith, aid-in-range (c .before .before .before .before .before .before .before .before .before .args .self) (c .before .before .before .before .before .before .before .before .before .pre) .1, c .sized-16 .ensures)
+
+array-share-prefix-aid : tie.Need-array-share-prefix-aid
+array-share-prefix-aid c = aid-inside c
+
+slice-aggregate-select : tie.Need-slice-aggregate-select
+slice-aggregate-select c = sym (length-take-le _ _ (aid-inside (c .before)))
+
+returns : tie.Need-returns
+returns c =
+    let at = c .before .before .before .before .before in
+    c .before .before .select .ensures ∙ select-next _ _ (at .before .before .before .before .before .before .before .before .before .pre) (at .sized-16 .ensures) (at .before .before .before .before .enum-told .given .1) (at .before .before .if1 .taken)
+
+returns-2 : tie.Need-returns-2
+returns-2 c =
+    let at = c .before .before .before .before in
+    let a = at .before .before .before .before .before .before .before .before .args in
+    c .before .before .get-data .ensures ∙ rw (at .kind-at .ensures) (get-data-next (a .self) (a .out .now) (at .before .before .before .enum-told .given .1) (at .before .if1 .left))
+
+returns-3 : tie.Need-returns-3
+returns-3 c = c .before .before .get-response .ensures ∙ get-response-next _ _ (c .before .before .before .before .before .next .given .1)
+
+pub write-command-spec : {M : Type 1} → statement M
+write-command-spec =
+    tie.close
+    (tie.spec
+    (λ c. search needs) (λ c κs. search needs) array-share-prefix-aid slice-aggregate-select (λ c κs. search needs) (λ c. search needs) returns
+    (λ c κs. search needs) (λ c κs. search needs) (λ c. search needs) (λ c κs. search needs) (λ c. search needs) returns-2 (λ c. search needs)
+    returns-3)

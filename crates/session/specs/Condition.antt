@@ -1,0 +1,50 @@
+-- What each call may decline (document 01): the conditions of each call with their numbers, in the order shown. Number 4, "session dead or out of range", stands
+-- before them where a session is asked, and is not among them.
+-- Assumes nothing.
+use mathlib.Core.Bool.{Bool, not, _&&_, _||_}
+use mathlib.Core.List.{List, [], _∷_}
+use Prim.Native.Nat.{ℕ}
+use lib.Dec.{eqb, ltb, leb}
+use lib.ListN.{length}
+use Rattle.card.specs.Fascn.{unpackOf}
+use Rattle.card.specs.Date.{realDate}
+use Rattle.card.specs.Command.{aidRefused}
+use Rattle.session.specs.Tables.{goodMode, goodKind, needs, checkOf, outcomeOf, awaited, ends, objectSize, stampSize}
+
+-- Open: 1 mode not 1–4; 2 date not real; 3 AID not 5–16 bytes.
+abbrev pub openConditions : ℕ → ℕ → List ℕ → List (ℕ × Bool)
+openConditions mode date aid = (1, not (goodMode mode)) ∷ (2, not (realDate date)) ∷ (3, aidRefused aid) ∷ []
+
+-- "nothing to send: step 3, a cause of 16 to 22, or a command outstanding"
+abbrev pub nothingToSend : ℕ → ℕ → Bool → Bool
+nothingToSend step cause outstanding = (eqb step 3 || ends cause) || outstanding
+
+-- Command: 5 nothing to send; 6 buffer shorter than the command.
+abbrev pub commandConditions : ℕ → ℕ → Bool → ℕ → ℕ → List (ℕ × Bool)
+commandConditions step cause outstanding room count =
+    (5, nothingToSend step cause outstanding) ∷ (6, ltb room count) ∷ []
+
+-- Answer: 5 no command outstanding; 7 object buffer not 8,192 bytes; 8 answer under 2 or over 258 bytes.
+abbrev pub answerConditions : Bool → ℕ → ℕ → List (ℕ × Bool)
+answerConditions outstanding size n =
+    (5, not outstanding) ∷ (7, not (eqb size objectSize)) ∷ (8, not (leb 2 n && leb n 258)) ∷ []
+
+-- Verdict: 9 step not 3; 10 kind not 1–4; 11 verdict not 0 (no) or 1 (yes); 12 not 25 bytes or ill-formed FASC-N; 13 mode doesn't need it; 14 that kind already given
+-- (its outcome isn't 1).
+abbrev pub verdictConditions : ℕ → ℕ → List ℕ → ℕ → ℕ → List ℕ → List (ℕ × Bool)
+verdictConditions mode step outcomes kind says fascn =
+    (9, not (eqb step 3))
+    ∷ (10, not (goodKind kind))
+    ∷ (11, not (leb says 1))
+    ∷ (12, not (eqb (unpackOf fascn .0) 0))
+    ∷ (13, not (needs mode (checkOf kind)))
+    ∷ (14, not (eqb (outcomeOf outcomes (checkOf kind)) awaited))
+    ∷ []
+
+-- Field: 7 object buffer not 8,192 bytes.
+abbrev pub fieldConditions : ℕ → List (ℕ × Bool)
+fieldConditions size = (7, not (eqb size objectSize)) ∷ []
+
+-- Stamp: 6 buffer under 45 bytes.
+abbrev pub stampConditions : ℕ → List (ℕ × Bool)
+stampConditions room = (6, ltb room stampSize) ∷ []

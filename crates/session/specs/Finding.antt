@@ -1,0 +1,74 @@
+-- The finding of a reading (document 01: "mode, opening date, step, cause, status word, six outcomes, FASC-N digits and expiry"), its standing, the 45 bytes of its
+-- stamp, and what granted means of the calls.
+-- Assumes nothing.
+use mathlib.Core.Path.{_≡_}
+use mathlib.Core.Bool.{Bool, true, false, cond}
+use mathlib.Core.Option.{Option}
+use mathlib.Core.List.{List, [], _∷_}
+use Prim.Native.Nat.{ℕ, _≤_}
+use lib.Dec.{eqb}
+use lib.ListN.{replicate}
+use Rattle.card.specs.Fascn.{packOf}
+use Rattle.session.specs.Tables.{needs, goodKind, checkOf, causeOf, standingOf, listed, fascnIn, digitsIn, keyIn, expiryIn, headOf, layout}
+use Rattle.session.specs.Reading.{StepOne, Verdict, Reading}
+
+pub record Finding : Type 0 where
+  pub mode : ℕ
+  pub date : ℕ
+  pub step : ℕ
+  pub cause : ℕ
+  pub sw1 : ℕ
+  pub sw2 : ℕ
+  pub outcomes : List ℕ
+  -- "both absent before step 1's good end"
+  pub digits : Option (List ℕ)
+  pub expiry : Option ℕ
+
+abbrev pub digitsFound : ℕ → Option StepOne → Option (List ℕ)
+digitsFound mode Option.none = Option.none
+digitsFound mode (Option.some f) = Option.some (digitsIn mode (f .joined))
+
+abbrev pub expiryFound : ℕ → Option StepOne → Option ℕ
+expiryFound mode Option.none = Option.none
+expiryFound mode (Option.some f) = Option.some (expiryIn mode (f .joined))
+
+unfoldable pub finding : Reading → Finding
+finding r =
+    record { mode = r .opening .mode; date = r .opening .date; step = r .course .step; cause = causeOf (r .course .cause) (r .outcomes); sw1 = r .course .sw1; sw2 = r .course .sw2; outcomes = r .outcomes; digits = digitsFound (r .opening .mode) (r .found .first); expiry = expiryFound (r .opening .mode) (r .found .first) }
+
+-- 0 open, 1 granted, 2 rejected.
+abbrev pub standing : Finding → ℕ
+standing f = standingOf (f .mode) (f .step) (f .cause) (f .outcomes)
+
+-- ---- the stamp
+
+-- "FASC-N (25, zeros if absent), expiry likewise"
+abbrev pub fascnStamped : Option (List ℕ) → List ℕ
+fascnStamped Option.none = replicate 25 0
+fascnStamped (Option.some digits) = packOf digits .1
+
+abbrev pub expiryStamped : Option ℕ → ℕ
+expiryStamped Option.none = 0
+expiryStamped (Option.some expiry) = expiry
+
+unfoldable pub stampOf : Finding → List ℕ
+stampOf f =
+    layout (headOf (f .mode) (standing f) (f .cause) (f .sw1) (f .sw2) (f .step)) (f .outcomes) (f .date) (fascnStamped (f .digits)) (expiryStamped (f .expiry))
+
+-- ---- granted, said of the calls
+
+-- The verdict of a kind among those accepted.
+unfoldable pub verdictOn : ℕ → List Verdict → Option Verdict
+verdictOn kind [] = Option.none
+verdictOn kind (v ∷ vs) = cond (eqb (v .kind) kind) (Option.some v) (verdictOn kind vs)
+
+-- Step 3, and, on the one FASC-N read in step 1: the field 35 read with it is not before the opening date, its key is not in the list lent with the answer that
+-- ended step 1, and each verdict that the mode needs was accepted as a yes on those 25 bytes.
+pub record Granted (r : Reading) : Type 0 where
+  pub all-read : r .course .step ≡ 3
+  pub one : StepOne
+  pub read : r .found .first ≡ Option.some one
+  pub in-time : r .opening .date ≤ expiryIn (r .opening .mode) (one .joined)
+  pub not-listed : listed (keyIn (r .opening .mode) (one .joined)) (one .cancelled) ≡ false
+  pub verdicts : (kind : ℕ) → goodKind kind ≡ true → needs (r .opening .mode) (checkOf kind) ≡ true
+      → verdictOn kind (r .found .verdicts) ≡ Option.some (record { kind = kind; says = 1; fascn = fascnIn (r .opening .mode) (one .joined) })

@@ -1,0 +1,59 @@
+-- The ranges of a session's values (document 01: "Its values have ranges"). A session that misses one is dead or out of range, number 4.
+-- Assumes nothing.
+use mathlib.Core.Bool.{Bool, not, _&&_, _||_}
+use mathlib.Core.List.{List}
+use Prim.Native.Nat.{ℕ, _+_, _-_}
+use lib.Dec.{eqb, ltb, leb}
+use lib.ListN.{getD}
+use Rattle.card.specs.Range.{all}
+use Rattle.card.specs.Date.{realDate}
+use Rattle.card.specs.Object.{empty, mostFields}
+use Rattle.card.specs.declared.object.Part.{Part}
+use Rattle.session.specs.Tables.{checks, goodMode, ends, hasStep2, baseOf, capacity, objectSize}
+use Rattle.session.specs.declared.state.Setting.{Setting}
+use Rattle.session.specs.declared.state.Progress.{Progress}
+use Rattle.session.specs.declared.state.Card.{Card}
+use Rattle.session.specs.declared.state.Session.{Session}
+
+-- "mode 1–4", "opening date real", "AID length 5–16"
+abbrev pub settingInRange : Setting → Bool
+settingInRange s = (goodMode (s .mode) && realDate (s .date)) && (leb 5 (s .«aid_len») && leb (s .«aid_len») 16)
+
+-- "step 0–3 (2 only in modes 3 and 4)"
+abbrev pub stepInRange : ℕ → ℕ → Bool
+stepInRange mode step = leb step 3 && (not (eqb step 2) || hasStep2 mode)
+
+-- "cause 0 or 16–22"
+abbrev pub causeInRange : ℕ → Bool
+causeInRange cause = eqb cause 0 || ends cause
+
+-- "a command outstanding only in steps 0 to 2 with cause 0"
+abbrev pub outstandingInRange : Bool → ℕ → ℕ → Bool
+outstandingInRange outstanding step cause = not outstanding || (leb step 2 && eqb cause 0)
+
+-- "filled 0–4,096" beside these
+abbrev pub progressInRange : ℕ → Progress → Bool
+progressInRange mode p =
+    (stepInRange mode (p .step) && leb (p .filled) (capacity mode (p .step))) && (causeInRange (p .cause) && outstandingInRange (p .outstanding) (p .step) (p .cause))
+
+-- "outcomes 0–4"
+unfoldable pub outcomesInRange : List ℕ → Bool
+outcomesInRange o = all checks (λ i. leb (getD o i 0) 4)
+
+-- "field parts inside 8,192": a part is kept by its place in its step's data, which begins at `base` in the object buffer.
+abbrev pub partInside : ℕ → Part → Bool
+partInside base p = leb (p .start) (objectSize - base) && leb (p .len) (objectSize - base - p .start)
+
+unfoldable pub partsInside : ℕ → List Part → Bool
+partsInside base ps = all mostFields (λ i. partInside base (getD ps i empty))
+
+-- "expiry real or 0"; "FASC-N any 25 bytes" asks nothing.
+abbrev pub cardInRange : Card → Bool
+cardInRange c = (eqb (c .expiry) 0 || realDate (c .expiry)) && (partsInside (baseOf 1) (c .first) && partsInside (baseOf 2) (c .second))
+
+unfoldable pub inRange : Session → Bool
+inRange s =
+    (settingInRange (s .setting) && progressInRange (s .setting .mode) (s .progress)) && (outcomesInRange (s .outcomes) && cardInRange (s .card))
+
+abbrev pub outOfRange : Session → Bool
+outOfRange s = not (inRange s)

@@ -1,0 +1,232 @@
+-- Document 01's reading of an opening and a list of calls: "fed the opening's mode, date and AID and each call's arguments (not the session, and only the length of the
+-- object buffer), never a result". It knows lists of bytes, and no session, no buffer and no place in one.
+-- Assumes nothing.
+use mathlib.Core.Bool.{Bool, true, false, cond, _&&_}
+use mathlib.Core.Option.{Option}
+use mathlib.Core.List.{List, [], _∷_, _++_}
+use Prim.Native.Nat.{ℕ, _+_}
+use lib.Dec.{eqb}
+use lib.ListN.{length, getD, replicate}
+use Rattle.card.specs.Refusal.{refusalOf}
+use Rattle.card.specs.Object.{fieldValue}
+use Rattle.card.specs.Command.{statusOf}
+use Rattle.card.specs.declared.command.Status.{Status}
+use Rattle.card.specs.declared.command.Status.the-variants.{Done, More, Other}
+use Rattle.session.specs.Tables.{checkOf, neededOutcomes, withOutcome, verdictOutcome, judgedOutcomes, kindAt, stepAfter, capacity, stepOfTag, commandBytes, isResponse, dataOf, statusBytes, ruleCause, fascnIn, joinedCause}
+use Rattle.session.specs.Condition.{commandConditions, answerConditions, verdictConditions, fieldConditions, stampConditions}
+use Rattle.session.specs.declared.state.Next.{Next}
+use Rattle.session.specs.declared.state.Next.the-variants.{Initial, GetResponse}
+
+-- ---- what the reading is fed
+
+-- The opening's mode, date and AID.
+pub record Opening : Type 0 where
+  pub mode : ℕ
+  pub date : ℕ
+  pub aid : List ℕ
+
+-- A call's arguments; of a buffer that it is lent, the length alone.
+pub data Told : Type 0 where
+  command : (room : ℕ) → Told
+  answer : (size : ℕ) (bytes cancelled : List ℕ) → Told
+  verdict : (kind says : ℕ) (fascn : List ℕ) → Told
+  field : (size tag : ℕ) → Told
+  stamp : (room : ℕ) → Told
+
+-- ---- what is read
+
+-- The step, the cause (16 to 22, or 0) with the status word of the answer that gave cause 16, the step's joined data, whether a command is outstanding, and the
+-- next command.
+pub record Course : Type 0 where
+  pub step : ℕ
+  pub cause : ℕ
+  pub sw1 : ℕ
+  pub sw2 : ℕ
+  pub joined : List ℕ
+  pub outstanding : Bool
+  pub next : Next
+
+-- Step 1's joined data at its good end, and the list lent with the answer that ended it.
+pub record StepOne : Type 0 where
+  pub joined : List ℕ
+  pub cancelled : List ℕ
+
+-- A verdict that was accepted.
+pub record Verdict : Type 0 where
+  pub kind : ℕ
+  pub says : ℕ
+  pub fascn : List ℕ
+
+-- What the good ends of steps 1 and 2 gave, and the accepted verdicts, the last one first.
+pub record Found : Type 0 where
+  pub first : Option StepOne
+  pub second : Option (List ℕ)
+  pub verdicts : List Verdict
+
+pub record Reading : Type 0 where
+  pub opening : Opening
+  pub course : Course
+  pub outcomes : List ℕ
+  pub found : Found
+
+-- ---- how it begins
+
+-- A step begins: no data of its own yet, and its command is next.
+abbrev pub atStep : ℕ → Course
+atStep step = record { step = step; cause = 0; sw1 = 0; sw2 = 0; joined = []; outstanding = false; next = Initial }
+
+-- "It starts at step 0 with no cause, no data, no command outstanding, SELECT next, needed outcomes 1, others 0."
+abbrev pub begins : Opening → Reading
+begins o =
+    record { opening = o; course = atStep 0; outcomes = neededOutcomes (o .mode); found = record { first = Option.none; second = Option.none; verdicts = [] } }
+
+abbrev pub withCourse : Reading → Course → Reading
+withCourse r c = record { opening = r .opening; course = c; outcomes = r .outcomes; found = r .found }
+
+-- ---- a command call: "makes the next command outstanding"
+
+abbrev pub nextCommand : Reading → List ℕ
+nextCommand r = commandBytes (r .opening .mode) (r .opening .aid) (r .course .step) (r .course .next)
+
+unfoldable pub commandRefused : Reading → ℕ → ℕ
+commandRefused r room =
+    refusalOf (commandConditions (r .course .step) (r .course .cause) (r .course .outstanding) room (length (nextCommand r)))
+
+abbrev pub sending : Course → Course
+sending c =
+    record { step = c .step; cause = c .cause; sw1 = c .sw1; sw2 = c .sw2; joined = c .joined; outstanding = true; next = c .next }
+
+-- ---- an answer call: "ends that and follows the rules above"
+
+unfoldable pub answerRefused : Reading → ℕ → ℕ → ℕ
+answerRefused r size n = refusalOf (answerConditions (r .course .outstanding) size n)
+
+-- "A cause of 16 to 22 ends the reading at that step for good."
+abbrev pub stopped : Course → ℕ → ℕ → ℕ → Course
+stopped c cause sw1 sw2 =
+    record { step = c .step; cause = cause; sw1 = sw1; sw2 = sw2; joined = c .joined; outstanding = false; next = c .next }
+
+-- "After 61 GET RESPONSE is next."
+abbrev pub continued : Course → List ℕ → ℕ → Course
+continued c joined second =
+    record { step = c .step; cause = 0; sw1 = 0; sw2 = 0; joined = joined; outstanding = false; next = GetResponse second }
+
+-- The good end of a step: the next step begins.
+unfoldable pub goodEnd : Reading → List ℕ → List ℕ → Reading
+goodEnd r joined cancelled =
+    let mode = r .opening .mode in
+    cond (eqb (r .course .step) 0)
+    (withCourse r (atStep (stepAfter mode 0)))
+    (cond (eqb (r .course .step) 1)
+    (record { opening = r .opening; course = atStep (stepAfter mode 1); outcomes = judgedOutcomes mode (r .opening .date) (r .outcomes) joined cancelled; found = record { first = Option.some (record { joined = joined; cancelled = cancelled }); second = r .found .second; verdicts = r .found .verdicts } })
+    (record { opening = r .opening; course = atStep (stepAfter mode 2); outcomes = r .outcomes; found = record { first = r .found .first; second = Option.some joined; verdicts = r .found .verdicts } }))
+
+-- The step's joined data is judged.
+unfoldable pub judged : Reading → List ℕ → List ℕ → Reading
+judged r joined cancelled =
+    let k = joinedCause (r .opening .mode) (r .course .step) joined in
+    cond (eqb k 0) (goodEnd r joined cancelled) (withCourse r (stopped (r .course) k 0 0))
+
+-- Rule 4: "the data is appended. After 61 GET RESPONSE is next. After 90 00 the step's joined data is judged".
+abbrev pub appended : Status → Reading → List ℕ → List ℕ → Reading
+appended (More second) r joined cancelled = withCourse r (continued (r .course) joined second)
+appended Done r joined cancelled = judged r joined cancelled
+appended Other r joined cancelled = judged r joined cancelled
+
+abbrev pub causeBy : Course → ℕ → Status → List ℕ → ℕ
+causeBy c most status bytes = ruleCause status (isResponse (c .next)) (length bytes) (length (c .joined)) most
+
+-- The effect of an answer, "first rule that fits".
+unfoldable pub answered : Reading → List ℕ → List ℕ → List ℕ → Reading
+answered r bytes status cancelled =
+    let k = causeBy (r .course) (capacity (r .opening .mode) (r .course .step)) (statusOf status) bytes in
+    cond (eqb k 0) (appended (statusOf status) r (r .course .joined ++ bytes) cancelled)
+    (withCourse r (stopped (r .course) k (cond (eqb k 16) (getD status 0 0) 0) (cond (eqb k 16) (getD status 1 0) 0)))
+
+-- ---- a verdict call: "sets its check's outcome"
+
+-- Step 1's FASC-N; zeros before its good end.
+abbrev pub ownFascn : ℕ → Option StepOne → List ℕ
+ownFascn mode Option.none = replicate 25 0
+ownFascn mode (Option.some f) = fascnIn mode (f .joined)
+
+unfoldable pub verdictRefused : Reading → ℕ → ℕ → List ℕ → ℕ
+verdictRefused r kind says fascn =
+    refusalOf (verdictConditions (r .opening .mode) (r .course .step) (r .outcomes) kind says fascn)
+
+abbrev pub heard : Reading → ℕ → ℕ → List ℕ → Reading
+heard r kind says fascn =
+    record { opening = r .opening; course = r .course; outcomes = withOutcome (r .outcomes) (checkOf kind) (verdictOutcome (ownFascn (r .opening .mode) (r .found .first)) says fascn); found = record { first = r .found .first; second = r .found .second; verdicts = record { kind = kind; says = says; fascn = fascn } ∷ r .found .verdicts } }
+
+-- ---- every call
+
+-- The number that refuses a call, by its arguments and the reading; 0 where none does.
+abbrev pub refusedBy : Reading → Told → ℕ
+refusedBy r (Told.command room) = commandRefused r room
+refusedBy r (Told.answer size bytes cancelled) = answerRefused r size (length bytes)
+refusedBy r (Told.verdict kind says fascn) = verdictRefused r kind says fascn
+refusedBy r (Told.field size tag) = refusalOf (fieldConditions size)
+refusedBy r (Told.stamp room) = refusalOf (stampConditions room)
+
+-- What a call that is accepted makes of the reading. "Field and stamp calls change nothing."
+abbrev pub accepted : Reading → Told → Reading
+accepted r (Told.command room) = withCourse r (sending (r .course))
+accepted r (Told.answer size bytes cancelled) = answered r (dataOf bytes) (statusBytes bytes) cancelled
+accepted r (Told.verdict kind says fascn) = heard r kind says fascn
+accepted r (Told.field size tag) = r
+accepted r (Told.stamp room) = r
+
+-- "A call that a condition below fits is refused and changes nothing."
+unfoldable pub read : Reading → Told → Reading
+read r t = cond (eqb (refusedBy r t) 0) (accepted r t) r
+
+abbrev pub reading : Reading → List Told → Reading
+reading r [] = r
+reading r (t ∷ ts) = reading (read r t) ts
+
+-- The number of each call of a list.
+abbrev pub refusals : Reading → List Told → List ℕ
+refusals r [] = []
+refusals r (t ∷ ts) = refusedBy r t ∷ refusals (read r t) ts
+
+-- ---- fields
+
+-- The joined data of step 1 or 2 at its good end; none before it.
+abbrev pub joinedOne : Option StepOne → List ℕ
+joinedOne Option.none = []
+joinedOne (Option.some f) = f .joined
+
+abbrev pub joinedTwo : Option (List ℕ) → List ℕ
+joinedTwo Option.none = []
+joinedTwo (Option.some joined) = joined
+
+abbrev pub joinedAt : Found → ℕ → List ℕ
+joinedAt f step = cond (eqb step 2) (joinedTwo (f .second)) (joinedOne (f .first))
+
+-- "the field's value in its step's joined data"; empty for another tag, and for a field not yet read or absent.
+unfoldable pub fieldIn : Reading → ℕ → List ℕ
+fieldIn r tag =
+    let step = stepOfTag tag in
+    cond (eqb step 0) [] (fieldValue (kindAt (r .opening .mode) step) tag (joinedAt (r .found) step))
+
+-- ---- answers taken
+
+abbrev pub isAnswer : Told → Bool
+isAnswer (Told.command room) = false
+isAnswer (Told.answer size bytes cancelled) = true
+isAnswer (Told.verdict kind says fascn) = false
+isAnswer (Told.field size tag) = false
+isAnswer (Told.stamp room) = false
+
+-- An answer is taken by this call.
+abbrev pub takes : Reading → Told → Bool
+takes r t = isAnswer t && eqb (refusedBy r t) 0
+
+-- How many answers of a list are taken in a step, and in all.
+abbrev pub answersIn : ℕ → Reading → List Told → ℕ
+answersIn step r [] = 0
+answersIn step r (t ∷ ts) = cond (takes r t && eqb (r .course .step) step) 1 0 + answersIn step (read r t) ts
+
+abbrev pub answers : Reading → List Told → ℕ
+answers r [] = 0
+answers r (t ∷ ts) = cond (takes r t) 1 0 + answers (read r t) ts

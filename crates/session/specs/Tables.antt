@@ -1,0 +1,229 @@
+-- Document 01's tables by mode, step, check and verdict kind, and its rules on single values. The reading of a list of calls and the operations on a
+-- session share them, and each stands here once.
+-- Assumes nothing.
+use mathlib.Core.Bool.{Bool, true, false, cond, not, _&&_, _||_}
+use mathlib.Core.List.{List, [], _∷_, _++_}
+use Prim.Native.Nat.{ℕ, suc, _+_, _-_, _/_, _%_}
+use lib.Dec.{eqb, ltb, leb}
+use lib.ListN.{length, getD, set, take, drop}
+use Rattle.card.specs.Range.{listOf, all, sameBytes}
+use Rattle.card.specs.Refusal.{refusalOf}
+use Rattle.card.specs.Fascn.{unpackOf, keyOf}
+use Rattle.card.specs.Template.{templateOf}
+use Rattle.card.specs.Object.{objectOf, fieldValue}
+use Rattle.card.specs.Date.{dateOf}
+use Rattle.card.specs.Command.{selectBytes, getDataBytes, getResponseBytes, statusOf}
+use Rattle.card.specs.declared.object.Kind.{Kind}
+use Rattle.card.specs.declared.object.Kind.the-variants.{Signed, Unsigned, Fingers}
+use Rattle.card.specs.declared.command.Status.{Status}
+use Rattle.card.specs.declared.command.Status.the-variants.{Done, More, Other}
+use Rattle.session.specs.declared.state.Next.{Next}
+use Rattle.session.specs.declared.state.Next.the-variants.{Initial, GetResponse}
+
+-- ---- modes and checks
+
+-- Checks: 1 signature, 2 signer, 3 expiry, 4 list, 5 active authentication, 6 finger.
+abbrev pub checks : ℕ
+checks = 6
+
+abbrev pub goodMode : ℕ → Bool
+goodMode mode = leb 1 mode && leb mode 4
+
+-- Mode 1 needs 1–4, mode 2 needs 3–5, mode 3 needs 1–4 and 6, mode 4 all.
+abbrev pub checksOf : ℕ → List ℕ
+checksOf mode =
+    cond (eqb mode 1) (1 ∷ 2 ∷ 3 ∷ 4 ∷ [])
+    (cond (eqb mode 2) (3 ∷ 4 ∷ 5 ∷ [])
+    (cond (eqb mode 3) (1 ∷ 2 ∷ 3 ∷ 4 ∷ 6 ∷ []) (1 ∷ 2 ∷ 3 ∷ 4 ∷ 5 ∷ 6 ∷ [])))
+
+abbrev pub isIn : ℕ → List ℕ → Bool
+isIn x [] = false
+isIn x (y ∷ ys) = eqb x y || isIn x ys
+
+-- The mode needs the check.
+unfoldable pub needs : ℕ → ℕ → Bool
+needs mode check = isIn check (checksOf mode)
+
+-- Verdict kinds 1, 2, 3, 4 serve checks 1, 2, 5, 6.
+abbrev pub goodKind : ℕ → Bool
+goodKind kind = leb 1 kind && leb kind 4
+
+unfoldable pub checkOf : ℕ → ℕ
+checkOf kind = cond (eqb kind 1) 1 (cond (eqb kind 2) 2 (cond (eqb kind 3) 5 6))
+
+-- ---- outcomes: a list of six, that of check 1 first
+
+-- An outcome is 0 unneeded, 1 awaited, 2 passed, 3 failed, 4 other card.
+abbrev pub unneeded : ℕ
+unneeded = 0
+
+abbrev pub awaited : ℕ
+awaited = 1
+
+abbrev pub passed : ℕ
+passed = 2
+
+abbrev pub failed : ℕ
+failed = 3
+
+abbrev pub otherCard : ℕ
+otherCard = 4
+
+abbrev pub outcomeOf : List ℕ → ℕ → ℕ
+outcomeOf o check = getD o (check - 1) 0
+
+abbrev pub withOutcome : List ℕ → ℕ → ℕ → List ℕ
+withOutcome o check v = set o (check - 1) v
+
+-- "needed outcomes 1, others 0"
+unfoldable pub neededAt : ℕ → ℕ → ℕ
+neededAt mode i = cond (needs mode (i + 1)) awaited unneeded
+
+unfoldable pub neededOutcomes : ℕ → List ℕ
+neededOutcomes mode = listOf checks (neededAt mode)
+
+-- "A no gives 3. A yes gives 2 if its 25 bytes equal step 1's FASC-N, else 4."
+unfoldable pub verdictOutcome : List ℕ → ℕ → List ℕ → ℕ
+verdictOutcome own says fascn = cond (eqb says 0) failed (cond (sameBytes fascn own) passed otherCard)
+
+-- Check 3: "2 if expiry is at or after the date given at opening, else 3".
+unfoldable pub expiryOutcome : ℕ → ℕ → ℕ
+expiryOutcome date expiry = cond (leb date expiry) passed failed
+
+-- The key stands somewhere among the cancelled keys.
+unfoldable pub listed : ℕ → List ℕ → Bool
+listed key cancelled = not (all (length cancelled) (λ i. not (eqb (getD cancelled i 0) key)))
+
+-- Check 4: "3 if the key stands anywhere in the list lent with that answer, else 2".
+unfoldable pub listOutcome : ℕ → List ℕ → ℕ
+listOutcome key cancelled = cond (listed key cancelled) failed passed
+
+-- ---- cause and standing
+
+-- A cause of 16 to 22 ends the reading.
+abbrev pub ends : ℕ → Bool
+ends cause = leb 16 cause && leb cause 22
+
+-- The lowest check with outcome 3 or 4, of the outcomes of check c and those after it; 0 where there is none.
+unfoldable pub lowestFrom : ℕ → List ℕ → ℕ
+lowestFrom c [] = 0
+lowestFrom c (v ∷ o) = cond (eqb v failed || eqb v otherCard) c (lowestFrom (suc c) o)
+
+-- "Cause is 16 to 22 if one arose, else the lowest check with outcome 3 or 4, else 0."
+unfoldable pub causeOf : ℕ → List ℕ → ℕ
+causeOf arose o = cond (eqb arose 0) (lowestFrom 1 o) arose
+
+-- Each needed outcome is 2.
+unfoldable pub allPassed : ℕ → List ℕ → Bool
+allPassed mode o = all checks (λ i. not (needs mode (i + 1)) || eqb (getD o i 0) passed)
+
+-- "Standing is rejected if cause is not 0, granted if step is 3 and each needed outcome is 2, else open": 0 open, 1 granted, 2 rejected.
+unfoldable pub standingOf : ℕ → ℕ → ℕ → List ℕ → ℕ
+standingOf mode step cause o = cond (not (eqb cause 0)) 2 (cond (eqb step 3 && allPassed mode o) 1 0)
+
+-- ---- steps
+
+-- Step 0 is SELECT. Step 1 reads 5FC102, or 5FC104 in mode 2. Step 2 reads DFC103, only in modes 3 and 4. Step 3 means all read.
+abbrev pub hasStep2 : ℕ → Bool
+hasStep2 mode = eqb mode 3 || eqb mode 4
+
+abbrev pub kindAt : ℕ → ℕ → Kind
+kindAt mode step = cond (eqb step 2) Fingers (cond (eqb mode 2) Unsigned Signed)
+
+abbrev pub stepAfter : ℕ → ℕ → ℕ
+stepAfter mode step = cond (eqb step 0) 1 (cond (eqb step 1 && hasStep2 mode) 2 3)
+
+-- "The object buffer is 8,192 bytes: steps 0 and 1 fill from byte 0, step 2 fills from byte 4,096, each at most 4,096 bytes."
+abbrev pub objectSize : ℕ
+objectSize = 8192
+
+abbrev pub baseOf : ℕ → ℕ
+baseOf step = cond (eqb step 2) 4096 0
+
+abbrev pub capacity : ℕ → ℕ → ℕ
+capacity mode step = 4096
+
+-- The step whose object has the field with a tag that a field call may ask for, 30, 34, 35, 3E or BC; 0 for another tag.
+unfoldable pub stepOfTag : ℕ → ℕ
+stepOfTag tag = cond (eqb tag 0x30 || eqb tag 0x34 || eqb tag 0x35 || eqb tag 0x3E) 1 (cond (eqb tag 0xBC) 2 0)
+
+-- ---- commands and answers
+
+-- The bytes of the next command: GET RESPONSE, or the command of the step.
+unfoldable pub commandBytes : ℕ → List ℕ → ℕ → Next → List ℕ
+commandBytes mode aid step Initial = cond (eqb step 0) (selectBytes aid) (getDataBytes (kindAt mode step))
+commandBytes mode aid step (GetResponse second) = getResponseBytes second
+
+abbrev pub isResponse : Next → Bool
+isResponse Initial = false
+isResponse (GetResponse second) = true
+
+-- "An answer is data, then two status bytes."
+abbrev pub dataOf : List ℕ → List ℕ
+dataOf answer = take (length answer - 2) answer
+
+abbrev pub statusBytes : List ℕ → List ℕ
+statusBytes answer = drop (length answer - 2) answer
+
+abbrev pub isOther : Status → Bool
+isOther Other = true
+isOther (More second) = false
+isOther Done = false
+
+abbrev pub isMore : Status → Bool
+isMore Other = false
+isMore (More second) = true
+isMore Done = false
+
+-- Rules 1 to 3, the first that fits: the cause that an answer with n bytes of data gives in a step that has `total` bytes and may have `most`, by its
+-- status and whether the command was GET RESPONSE; 0 where the data is appended.
+unfoldable pub ruleCause : Status → Bool → ℕ → ℕ → ℕ → ℕ
+ruleCause status response n total most =
+    refusalOf ((16, isOther status) ∷ (17, (isMore status && eqb n 0) && response) ∷ (18, ltb most (total + n)) ∷ [])
+
+-- The FASC-N, its digits and key, and the expiry in the joined data of step 1.
+abbrev pub fascnIn : ℕ → List ℕ → List ℕ
+fascnIn mode joined = fieldValue (kindAt mode 1) 0x30 joined
+
+abbrev pub digitsIn : ℕ → List ℕ → List ℕ
+digitsIn mode joined = unpackOf (fascnIn mode joined) .1
+
+abbrev pub keyIn : ℕ → List ℕ → ℕ
+keyIn mode joined = keyOf (digitsIn mode joined)
+
+abbrev pub expiryIn : ℕ → List ℕ → ℕ
+expiryIn mode joined = dateOf (fieldValue (kindAt mode 1) 0x35 joined) .1
+
+-- "Step 1's good end sets check 3 and check 4", by its joined data.
+abbrev pub judgedOutcomes : ℕ → ℕ → List ℕ → List ℕ → List ℕ → List ℕ
+judgedOutcomes mode date outcomes joined cancelled =
+    withOutcome (withOutcome outcomes 3 (expiryOutcome date (expiryIn mode joined))) 4 (listOutcome (keyIn mode joined) cancelled)
+
+-- "After 90 00 the step's joined data is judged: template malformed, cause 19; object malformed, 20; FASC-N ill-formed, 21; date ill-formed, 22"; 0 where it is
+-- good, and the next step begins.
+unfoldable pub objectCause : ℕ → ℕ → List ℕ → ℕ
+objectCause mode step joined =
+    refusalOf
+    ((20, not (eqb (objectOf (kindAt mode step) joined .0) 0))
+    ∷ (21, eqb step 1 && not (eqb (unpackOf (fascnIn mode joined) .0) 0))
+    ∷ (22, eqb step 1 && not (eqb (dateOf (fieldValue (kindAt mode 1) 0x35 joined) .0) 0))
+    ∷ [])
+
+unfoldable pub joinedCause : ℕ → ℕ → List ℕ → ℕ
+joinedCause mode step joined = cond (eqb step 0) (templateOf joined) (objectCause mode step joined)
+
+-- ---- the stamp
+
+-- A number of four bytes, high byte first.
+abbrev pub fourBytes : ℕ → List ℕ
+fourBytes n = n / 16777216 % 256 ∷ n / 65536 % 256 ∷ n / 256 % 256 ∷ n % 256 ∷ []
+
+-- "Stamp, 45 bytes: mode, standing, cause, status word (2 bytes), step, outcomes (6), opening date as a number, high byte first (4), FASC-N (25), expiry likewise (4)."
+abbrev pub stampSize : ℕ
+stampSize = 6 + checks + 4 + 25 + 4
+
+abbrev pub headOf : ℕ → ℕ → ℕ → ℕ → ℕ → ℕ → List ℕ
+headOf mode standing cause sw1 sw2 step = mode ∷ standing ∷ cause ∷ sw1 ∷ sw2 ∷ step ∷ []
+
+unfoldable pub layout : List ℕ → List ℕ → ℕ → List ℕ → ℕ → List ℕ
+layout head outcomes date fascn expiry = (((head ++ outcomes) ++ fourBytes date) ++ fascn) ++ fourBytes expiry

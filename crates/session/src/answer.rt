@@ -1,0 +1,179 @@
+// Answer: the card's answer to the outstanding command.
+use crate::state::Answered;
+use crate::state::Next;
+use crate::state::Progress;
+use crate::state::Reply;
+use crate::state::Session;
+use crate::store;
+use crate::tables;
+use card::command;
+use card::command::Status;
+ghost use mathlib.Core.Path.{_≡_};
+ghost use mathlib.Core.Bool.{true};
+ghost use Prim.Native.Nat.{_+_, _≤_, _<_, _^_};
+ghost use lib.ListN.{length};
+ghost use Rattle.session.specs.Tables.{objectSize, isResponse, isOther, isMore, ruleCause};
+ghost use Rattle.session.specs.Ranges.{inRange};
+ghost use Rattle.session.specs.Operation.{replyNumber, given, withProgress, ended, more, answerRefusal, causeBy, appendedSession, takenSession, takenBuffer, answerOf, answerBuffer};
+ghost use Rattle.session.specs.Promise.{AnswerKept};
+
+fn is_response(next: Next) -> bool
+    ensures { λ r. ⌜ r ≡ isResponse next ⌝ }
+{
+    match next {
+        Next::Initial => false,
+        Next::GetResponse(_) => true,
+    }
+}
+
+fn is_other(status: Status) -> bool
+    ensures { λ r. ⌜ r ≡ isOther status ⌝ }
+{
+    match status {
+        Status::Done => false,
+        Status::More(_) => false,
+        Status::Other => true,
+    }
+}
+
+fn is_more(status: Status) -> bool
+    ensures { λ r. ⌜ r ≡ isMore status ⌝ }
+{
+    match status {
+        Status::Done => false,
+        Status::More(_) => true,
+        Status::Other => false,
+    }
+}
+
+// Rules 1 to 3, the first that fits; 0 where the data is appended.
+fn rule_cause(status: Status, response: bool, n: usize, total: usize, most: usize) -> u8
+    requires { ⌜ (n ≤ 256) × (total ≤ 4096) ⌝ }
+    ensures { λ r. ⌜ r ≡ ruleCause status response n total most ⌝ }
+{
+    if is_other(status) {
+        return 16;
+    }
+    if (is_more(status) & (n == 0)) & response {
+        return 17;
+    }
+    if most < total + n {
+        return 18;
+    }
+    0
+}
+
+impl Session {
+    fn answer_refusal(self, size: usize, n: usize) -> Reply
+        ensures { λ r. ⌜ replyNumber r ≡ answerRefusal self size n ⌝ }
+    {
+        if self.out_of_range() {
+            return Reply::OutOfRange;
+        }
+        if !self.progress.outstanding {
+            return Reply::NoCommandOutstanding;
+        }
+        if size != 8192 {
+            return Reply::WrongObjectBuffer;
+        }
+        if !((2 <= n) & (n <= 258)) {
+            return Reply::WrongAnswerLength;
+        }
+        Reply::Accepted
+    }
+
+    // A cause ends the reading.
+    pub(crate) fn ended(self, cause: u8, sw1: u8, sw2: u8) -> Session
+        ensures { λ r. ⌜ r ≡ withProgress self (ended (self .progress) cause sw1 sw2) ⌝ }
+    {
+        let mut s = self;
+        s.progress.outstanding = false;
+        s.progress.cause = cause;
+        s.progress.sw1 = sw1;
+        s.progress.sw2 = sw2;
+        s
+    }
+
+    // More data is to be asked for, n bytes being appended.
+    fn with_more(self, n: usize, second: u8) -> Session
+        requires { ⌜ self .progress .filled + n < 2 ^ 64 ⌝ }
+        ensures { λ r. ⌜ r ≡ withProgress self (more (self .progress) n second) ⌝ }
+    {
+        let p = self.progress;
+        let progress = Progress {
+            step: p.step,
+            filled: p.filled + n,
+            outstanding: false,
+            next: Next::GetResponse(second),
+            cause: 0,
+            sw1: 0,
+            sw2: 0,
+        };
+        let mut s = self;
+        s.progress = progress;
+        s
+    }
+
+    // The cause that rules 1 to 3 give of an answer with n bytes of data.
+    fn cause_by(self, status: Status, n: usize) -> u8
+        requires { ⌜ (n ≤ 256) × (self .progress .filled ≤ 4096) ⌝ }
+        ensures { λ r. ⌜ r ≡ causeBy self status n ⌝ }
+    {
+        let p = self.progress;
+        let next = p.next;
+        rule_cause(status, is_response(next), n, p.filled, 4096)
+    }
+
+    // After 61 GET RESPONSE is next; after 90 00 the step's joined data is judged.
+    fn appended(self, status: Status, joined: &[u8], n: usize, cancelled: &[u64]) -> Session
+        requires { ⌜ self .progress .filled + n < 2 ^ 64 ⌝ }
+        ensures { λ r. ⌜ r ≡ appendedSession status self (now (joined .entry)) n (now (cancelled .entry)) ⌝ }
+    {
+        match status {
+            Status::Done => self.judge(joined, cancelled),
+            Status::More(second) => self.with_more(n, second),
+            Status::Other => self.judge(joined, cancelled),
+        }
+    }
+
+    // An answer that is accepted: the first rule that fits. The part of the object buffer from the step's base plus filled on is lent on for appending.
+    fn take(self, object: &mut [u8], bytes: &[u8], status: &[u8], cancelled: &[u64]) -> Session
+        requires { ⌜ (length (now object) ≡ objectSize) × (length (now bytes) ≤ 256) × (length (now status) ≡ 2) × (self .progress .filled ≤ 4096) ⌝ }
+        ensures { λ r. ⌜ r ≡ takenSession self (now (object .entry)) (now (bytes .entry)) (now (status .entry)) (now (cancelled .entry)) ⌝ }
+        ensures { λ r. ⌜ now (object .exit) ≡ takenBuffer self (now (object .entry)) (now (bytes .entry)) (now (status .entry)) ⌝ }
+    {
+        let n = bytes.len();
+        let word = command::status_of(status);
+        let cause = self.cause_by(word, n);
+        if cause == 0 {
+            let p = self.progress;
+            let base = tables::base_of(p.step);
+            let at = base + p.filled;
+            store::store(object, at, bytes);
+            let end = at + n;
+            return self.appended(word, &object[base..end], n, cancelled);
+        }
+        if cause == 16 {
+            return self.ended(cause, status[0], status[1]);
+        }
+        self.ended(cause, 0, 0)
+    }
+
+    // The answer's data is appended in the object buffer, and judged where it is the step's last.
+    pub fn answer(self, object: &mut [u8], answer: &[u8], cancelled: &[u64]) -> Answered
+        ensures { λ r. ⌜ given r ≡ answerOf self (now (object .entry)) (now (answer .entry)) (now (cancelled .entry)) ⌝ }
+        ensures { λ r. ⌜ now (object .exit) ≡ answerBuffer self (now (object .entry)) (now (answer .entry)) ⌝ }
+        ensures for_every_list { λ r. ⌜ AnswerKept self (now (object .entry)) (now (answer .entry)) (now (cancelled .entry)) (now (object .exit)) r ⌝ }
+    {
+        let reply = self.answer_refusal(object.len(), answer.len());
+        if reply.number() == 0 {
+            let n = answer.len() - 2;
+            let session = self.take(object, &answer[..n], &answer[n..], cancelled);
+            return Answered { session, reply };
+        }
+        Answered {
+            session: self,
+            reply,
+        }
+    }
+}

@@ -1,0 +1,102 @@
+// Command: the next command's bytes.
+use crate::state::Commanded;
+use crate::state::Next;
+use crate::state::Reply;
+use crate::state::Session;
+use crate::store;
+use crate::tables;
+use card::command;
+use card::command::CommandAnswer;
+ghost use mathlib.Core.Path.{_≡_};
+ghost use mathlib.Core.Bool.{true, cond};
+ghost use mathlib.Core.List.{[], _∷_};
+ghost use lib.Dec.{eqb};
+ghost use lib.ListN.{length};
+ghost use Rattle.card.specs.Refusal.{refusalOf};
+ghost use Rattle.card.specs.Command as card-command;
+ghost use Rattle.session.specs.Condition.{nothingToSend};
+ghost use Rattle.session.specs.Ranges.{inRange};
+ghost use Rattle.session.specs.Operation.{commandGiven, commandIn, sent, withProgress, commandOf, commandBuffer};
+ghost use Rattle.session.specs.Promise.{CommandKept};
+
+impl Session {
+    // Whether there is nothing to send: step 3, a cause of 16 to 22, or a command outstanding.
+    fn nothing_to_send(self) -> bool
+        ensures { λ r. ⌜ r ≡ nothingToSend (self .progress .step) (self .progress .cause) (self .progress .outstanding) ⌝ }
+    {
+        ((self.progress.step == 3) | tables::ends(self.progress.cause)) | self.progress.outstanding
+    }
+
+    // The next command, written to the front of out where it fits.
+    fn write_command(self, out: &mut [u8]) -> CommandAnswer
+        requires { ⌜ inRange self ≡ true ⌝ }
+        ensures { λ r. ⌜ (card-command.commandAnswer r, now (out .exit)) ≡ card-command.commandOf (refusalOf ((6, card-command.tooShort (now (out .entry)) (commandIn self)) ∷ [])) (commandIn self) (now (out .entry)) ⌝ }
+    {
+        let setting = self.setting;
+        let progress = self.progress;
+        let next = progress.next;
+        match next {
+            Next::Initial => {
+                if progress.step == 0 {
+                    let aid = setting.aid;
+                    let n = setting.aid_len;
+                    store::sized_16(aid);
+                    return command::select(&aid[..n], out);
+                }
+                command::get_data(tables::kind_at(setting.mode, progress.step), out)
+            }
+            Next::GetResponse(second) => command::get_response(second, out),
+        }
+    }
+
+    // The session once a command is written, or refused.
+    fn sent_by(self, written: CommandAnswer) -> Commanded
+        ensures { λ r. ⌜ commandGiven r ≡ cond (eqb (card-command.commandNumber written) 0) (0, card-command.commandAnswer written .1, withProgress self (sent (self .progress))) (card-command.commandNumber written, 0, self) ⌝ }
+    {
+        match written {
+            CommandAnswer::Written(count) => {
+                let mut session = self;
+                session.progress.outstanding = true;
+                Commanded {
+                    session,
+                    reply: Reply::Accepted,
+                    count,
+                }
+            }
+            CommandAnswer::WrongAid => Commanded {
+                session: self,
+                reply: Reply::WrongAid,
+                count: 0,
+            },
+            CommandAnswer::ShortBuffer => Commanded {
+                session: self,
+                reply: Reply::ShortBuffer,
+                count: 0,
+            },
+        }
+    }
+
+    // The next command is written to the front of out, and is outstanding.
+    pub fn command(self, out: &mut [u8]) -> Commanded
+        ensures { λ r. ⌜ commandGiven r ≡ commandOf self (length (now (out .entry))) ⌝ }
+        ensures { λ r. ⌜ now (out .exit) ≡ commandBuffer self (now (out .entry)) ⌝ }
+        ensures for_every_list { λ r. ⌜ CommandKept self (now (out .entry)) (now (out .exit)) r ⌝ }
+    {
+        if self.out_of_range() {
+            return Commanded {
+                session: self,
+                reply: Reply::OutOfRange,
+                count: 0,
+            };
+        }
+        if self.nothing_to_send() {
+            return Commanded {
+                session: self,
+                reply: Reply::NothingToSend,
+                count: 0,
+            };
+        }
+        let written = self.write_command(out);
+        self.sent_by(written)
+    }
+}

@@ -1,0 +1,46 @@
+// Field: the value of a field, as a part of the object buffer.
+use crate::state::Session;
+use crate::tables;
+use card::object;
+use card::object::FIELDS;
+use card::object::Part;
+ghost use mathlib.Core.Path.{_≡_};
+ghost use Rattle.session.specs.Operation.{partsAt, partFor, fieldOf};
+ghost use Rattle.session.specs.Promise.{FieldKept};
+
+impl Session {
+    // The parts of a step's object.
+    fn parts_at(self, step: u8) -> [Part; FIELDS]
+        ensures { λ r. ⌜ r ≡ partsAt (self .card) step ⌝ }
+    {
+        let card = self.card;
+        if step == 2 { card.second } else { card.first }
+    }
+
+    // Where the field with a tag lies in its step's data.
+    fn part_for(self, step: u8, tag: u8) -> Part
+        ensures { λ r. ⌜ r ≡ partFor self step tag ⌝ }
+    {
+        let parts = self.parts_at(step);
+        object::part_of(tables::kind_at(self.setting.mode, step), parts, tag)
+    }
+
+    // The value of the field with tag 30, 34, 35, 3E or BC; the empty part where the session is dead or out of range, the buffer has another size, the tag is another, or
+    // the field is not yet read or absent.
+    pub fn field<'a>(self, object: &'a [u8], tag: u8) -> &'a [u8]
+        ensures { λ r. ⌜ now r ≡ fieldOf self (now (object .entry)) tag ⌝ }
+        ensures for_every_list { λ r. ⌜ FieldKept self (now (object .entry)) tag (now r) ⌝ }
+    {
+        let step = tables::step_of_tag(tag);
+        if self.out_of_range() | (object.len() != 8192) {
+            return &object[..0];
+        }
+        if step == 0 {
+            return &object[..0];
+        }
+        let part = self.part_for(step, tag);
+        let start = tables::base_of(step) + part.start;
+        let end = start + part.len;
+        &object[start..end]
+    }
+}

@@ -1,0 +1,174 @@
+// The joined data of a step, judged once 90 00 has come: its cause, or the next step.
+use crate::open;
+use crate::state::CHECKS;
+use crate::state::Card;
+use crate::state::Session;
+use crate::store;
+use crate::tables;
+use card::date;
+use card::date::Date;
+use card::fascn;
+use card::object;
+use card::object::FIELDS;
+use card::object::Kind;
+use card::object::Part;
+use card::template;
+ghost use mathlib.Core.Path.{_≡_};
+ghost use Prim.Native.Nat.{_+_, _≤_};
+ghost use lib.ListN.{length};
+ghost use Rattle.card.specs.Fascn.{keyOf};
+ghost use Rattle.card.specs.Object.{objectOf, fieldValue};
+ghost use Rattle.card.specs.Date.{dateAnswer};
+ghost use Rattle.session.specs.Tables.{expiryOutcome, listed, listOutcome, kindAt, withOutcome, fascnIn};
+ghost use Rattle.session.specs.Operation.{secondRead, judgedSession};
+
+// The number that a date spells, 0 where it is none.
+fn date_number(d: Date) -> u32
+    ensures { λ r. ⌜ r ≡ dateAnswer d .1 ⌝ }
+{
+    match d {
+        Date::Real(n) => n,
+        Date::Unreal => 0,
+    }
+}
+
+fn expiry_outcome(date: u32, expiry: u32) -> u8
+    ensures { λ r. ⌜ r ≡ expiryOutcome date expiry ⌝ }
+{
+    if date <= expiry { 2 } else { 3 }
+}
+
+// Whether the key stands anywhere in the list. Every place is looked at: there is no early exit.
+fn listed(key: u64, cancelled: &[u64]) -> bool
+    ensures { λ r. ⌜ r ≡ listed key (now (cancelled .entry)) ⌝ }
+{
+    let mut absent = true;
+    for i in 0..cancelled.len() {
+        absent = absent & (cancelled[i] != key);
+    }
+    !absent
+}
+
+fn list_outcome(key: u64, cancelled: &[u64]) -> u8
+    ensures { λ r. ⌜ r ≡ listOutcome key (now (cancelled .entry)) ⌝ }
+{
+    if listed(key, cancelled) { 3 } else { 2 }
+}
+
+// The value of a field of the object s, whose parts are given.
+fn value<'a>(kind: Kind, parts: [Part; FIELDS], s: &'a [u8], tag: u8) -> &'a [u8]
+    requires { ⌜ objectOf kind (now s) .1 ≡ parts ⌝ }
+    ensures { λ r. ⌜ now r ≡ fieldValue kind tag (now (s .entry)) ⌝ }
+{
+    let p = object::part_of(kind, parts, tag);
+    let start = p.start;
+    let end = p.start + p.len;
+    &s[start..end]
+}
+
+// Checks 3 and 4 are set, by expiry and key.
+fn judged_outcomes(
+    o: [u8; CHECKS],
+    date: u32,
+    expiry: u32,
+    key: u64,
+    cancelled: &[u64],
+) -> [u8; CHECKS]
+    ensures { λ r. ⌜ r ≡ withOutcome (withOutcome o 3 (expiryOutcome date expiry)) 4 (listOutcome key (now (cancelled .entry))) ⌝ }
+{
+    let in_time = expiry_outcome(date, expiry);
+    let clear = list_outcome(key, cancelled);
+    let dated = tables::with_outcome(o, 3, in_time);
+    tables::with_outcome(dated, 4, clear)
+}
+
+impl Session {
+    // Step 0's data is a template or not.
+    fn judge_template(self, joined: &[u8], cancelled: &[u64]) -> Session
+        requires { ⌜ self .progress .step ≡ 0 ⌝ }
+        ensures { λ r. ⌜ r ≡ judgedSession self (now (joined .entry)) (now (cancelled .entry)) ⌝ }
+    {
+        let answer = template::template(joined);
+        let cause = answer.number();
+        if cause == 0 {
+            let mut s = self;
+            let progress = open::begin(1);
+            s.progress = progress;
+            return s;
+        }
+        self.ended(cause, 0, 0)
+    }
+
+    // Step 1's object is good: its FASC-N and its date are judged, and checks 3 and 4 set.
+    fn judge_first(self, parts: [Part; FIELDS], joined: &[u8], cancelled: &[u64]) -> Session
+        requires { ⌜ (self .progress .step ≡ 1) × (objectOf (kindAt (self .setting .mode) 1) (now joined) ≡ (0, parts)) ⌝ }
+        ensures { λ r. ⌜ r ≡ judgedSession self (now (joined .entry)) (now (cancelled .entry)) ⌝ }
+    {
+        let setting = self.setting;
+        let kind = tables::kind_at(setting.mode, 1);
+        let bytes = value(kind, parts, joined, 0x30);
+        let unpacked = fascn::unpack(bytes);
+        let well = unpacked.answer;
+        if well.number() != 0 {
+            return self.ended(21, 0, 0);
+        }
+        let date = date::read(value(kind, parts, joined, 0x35));
+        if date.number() != 0 {
+            return self.ended(22, 0, 0);
+        }
+        let expiry = date_number(date);
+        let digits = unpacked.digits;
+        let key = fascn::key_of(digits);
+        let before = self.outcomes;
+        let outcomes = judged_outcomes(before, setting.date, expiry, key.0, cancelled);
+        let fascn = store::array_25(bytes);
+        let progress = open::begin(tables::step_after(setting.mode, 1));
+        let second = self.card.second;
+        let card = Card {
+            fascn,
+            expiry,
+            first: parts,
+            second,
+        };
+        Session {
+            setting,
+            progress,
+            outcomes,
+            card,
+        }
+    }
+
+    // Step 2's object is good.
+    fn judge_second(self, parts: [Part; FIELDS]) -> Session
+        ensures { λ r. ⌜ r ≡ secondRead self parts ⌝ }
+    {
+        let progress = open::begin(3);
+        let mut card = self.card;
+        card.second = parts;
+        let mut s = self;
+        s.progress = progress;
+        s.card = card;
+        s
+    }
+
+    // The step's joined data is judged.
+    pub(crate) fn judge(self, joined: &[u8], cancelled: &[u64]) -> Session
+        ensures { λ r. ⌜ r ≡ judgedSession self (now (joined .entry)) (now (cancelled .entry)) ⌝ }
+    {
+        let step = self.progress.step;
+        if step == 0 {
+            return self.judge_template(joined, cancelled);
+        }
+        let kind = tables::kind_at(self.setting.mode, step);
+        let object = object::parse(kind, joined);
+        let answer = object.answer;
+        if answer.number() != 0 {
+            return self.ended(20, 0, 0);
+        }
+        let parts = object.parts;
+        if step == 1 {
+            return self.judge_first(parts, joined, cancelled);
+        }
+        self.judge_second(parts)
+    }
+}

@@ -1,0 +1,12 @@
+// The session with a card (document 01): open, command, answer, verdict, field and stamp. It knows the card's language only through what crate `card` states.
+mod answer;
+mod command;
+mod field;
+mod judge;
+pub mod open;
+mod range;
+mod stamp;
+pub mod state;
+mod store;
+mod tables;
+mod verdict;

@@ -1,0 +1,119 @@
+// Open: a session from mode, date and AID.
+use crate::state::Answered;
+use crate::state::CHECKS;
+use crate::state::Card;
+use crate::state::Next;
+use crate::state::Progress;
+use crate::state::Reply;
+use crate::state::Session;
+use crate::state::Setting;
+use crate::store;
+use crate::tables;
+use card::date;
+use card::object::FIELDS;
+use card::object::Part;
+ghost use mathlib.Core.Path.{_≡_};
+ghost use Prim.Native.Nat.{_≤_};
+ghost use lib.ListN.{length};
+ghost use Rattle.session.specs.Operation.{replyNumber, given, begun, noCard, dead, opened, openRefusal, openOf};
+ghost use Rattle.session.specs.Promise.{OpenKept};
+
+const EMPTY: Part = Part { start: 0, len: 0 };
+
+// A step begins.
+pub(crate) fn begin(step: u8) -> Progress
+    ensures { λ r. ⌜ r ≡ begun step ⌝ }
+{
+    Progress {
+        step,
+        filled: 0,
+        outstanding: false,
+        next: Next::Initial,
+        cause: 0,
+        sw1: 0,
+        sw2: 0,
+    }
+}
+
+fn no_card() -> Card
+    ensures { λ r. ⌜ r ≡ noCard ⌝ }
+{
+    Card {
+        fascn: [0; 25],
+        expiry: 0,
+        first: [EMPTY; FIELDS],
+        second: [EMPTY; FIELDS],
+    }
+}
+
+// All zeros.
+fn dead_session() -> Session
+    ensures { λ r. ⌜ r ≡ dead ⌝ }
+{
+    let setting = Setting {
+        mode: 0,
+        date: 0,
+        aid: [0; 16],
+        aid_len: 0,
+    };
+    let progress = begin(0);
+    let card = no_card();
+    Session {
+        setting,
+        progress,
+        outcomes: [0; CHECKS],
+        card,
+    }
+}
+
+fn open_refusal(mode: u8, date: u32, aid: &[u8]) -> Reply
+    ensures { λ r. ⌜ replyNumber r ≡ openRefusal mode date (now (aid .entry)) ⌝ }
+{
+    if !tables::good_mode(mode) {
+        return Reply::WrongMode;
+    }
+    if !date::real(date) {
+        return Reply::UnrealDate;
+    }
+    let n = aid.len();
+    if !((5 <= n) & (n <= 16)) {
+        return Reply::WrongAid;
+    }
+    Reply::Accepted
+}
+
+fn opened(mode: u8, date: u32, aid: &[u8]) -> Session
+    requires { ⌜ length (now aid) ≤ 16 ⌝ }
+    ensures { λ r. ⌜ r ≡ opened mode date (now (aid .entry)) ⌝ }
+{
+    let bytes = store::array_16(aid);
+    let setting = Setting {
+        mode,
+        date,
+        aid: bytes,
+        aid_len: aid.len(),
+    };
+    let progress = begin(0);
+    let outcomes = tables::needed_outcomes(mode);
+    let card = no_card();
+    Session {
+        setting,
+        progress,
+        outcomes,
+        card,
+    }
+}
+
+// A session freshly opened; the dead session where the opening is refused.
+pub fn open(mode: u8, date: u32, aid: &[u8]) -> Answered
+    ensures { λ r. ⌜ given r ≡ openOf mode date (now (aid .entry)) ⌝ }
+    ensures for_every_list { λ r. ⌜ OpenKept mode date (now (aid .entry)) r ⌝ }
+{
+    let reply = open_refusal(mode, date, aid);
+    if reply.number() == 0 {
+        let session = opened(mode, date, aid);
+        return Answered { session, reply };
+    }
+    let session = dead_session();
+    Answered { session, reply }
+}

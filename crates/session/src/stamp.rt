@@ -1,0 +1,96 @@
+// Stamp: 45 bytes that say what was found.
+use crate::state::Answered;
+use crate::state::Reply;
+use crate::state::Session;
+use crate::store;
+use crate::tables;
+ghost use mathlib.Core.Path.{_≡_};
+ghost use Prim.Native.Nat.{_≤_};
+ghost use lib.ListN.{length};
+ghost use Rattle.card.specs.Range.{front};
+ghost use Rattle.session.specs.Tables.{fourBytes, stampSize};
+ghost use Rattle.session.specs.Operation.{replyNumber, given, statusShown, stampRefusal, stampHead, stampIn, stampAnswer, stampBuffer};
+ghost use Rattle.session.specs.Promise.{StampKept};
+
+// A number of four bytes, high byte first.
+fn four_bytes(n: u32) -> [u8; 4]
+    ensures { λ r. ⌜ r ≡ fourBytes n ⌝ }
+{
+    [
+        (n / 16777216 % 256) as u8,
+        (n / 65536 % 256) as u8,
+        (n / 256 % 256) as u8,
+        (n % 256) as u8,
+    ]
+}
+
+// A byte of the status word, 00 unless the cause is 16.
+fn status_shown(cause: u8, sw: u8) -> u8
+    ensures { λ r. ⌜ r ≡ statusShown cause sw ⌝ }
+{
+    if cause == 16 { sw } else { 0 }
+}
+
+impl Session {
+    fn stamp_refusal(self, room: usize) -> Reply
+        ensures { λ r. ⌜ replyNumber r ≡ stampRefusal self room ⌝ }
+    {
+        if self.out_of_range() {
+            return Reply::OutOfRange;
+        }
+        if room < 45 {
+            return Reply::ShortBuffer;
+        }
+        Reply::Accepted
+    }
+
+    // Mode, standing, cause, status word and step.
+    fn stamp_head(self) -> [u8; 6]
+        ensures { λ r. ⌜ r ≡ stampHead self ⌝ }
+    {
+        let mode = self.setting.mode;
+        let p = self.progress;
+        let outcomes = self.outcomes;
+        let cause = tables::cause_of(p.cause, outcomes);
+        let standing = tables::standing_of(mode, p.step, cause, outcomes);
+        let sw1 = status_shown(p.cause, p.sw1);
+        let sw2 = status_shown(p.cause, p.sw2);
+        [mode, standing, cause, sw1, sw2, p.step]
+    }
+
+    fn write_stamp(self, out: &mut [u8])
+        requires { ⌜ stampSize ≤ length (now out) ⌝ }
+        ensures { λ r. ⌜ now (out .exit) ≡ front (stampIn self) (now (out .entry)) ⌝ }
+    {
+        let head = self.stamp_head();
+        let setting = self.setting;
+        let card = self.card;
+        let outcomes = self.outcomes;
+        let fascn = card.fascn;
+        let date = four_bytes(setting.date);
+        let expiry = four_bytes(card.expiry);
+        store::sized_6(outcomes);
+        store::sized_25(fascn);
+        store::store(out, 0, &head);
+        store::store(out, 6, &outcomes);
+        store::store(out, 12, &date);
+        store::store(out, 16, &fascn);
+        store::store(out, 41, &expiry);
+    }
+
+    // The stamp, written to the first 45 bytes of out.
+    pub fn stamp(self, out: &mut [u8]) -> Answered
+        ensures { λ r. ⌜ given r ≡ stampAnswer self (length (now (out .entry))) ⌝ }
+        ensures { λ r. ⌜ now (out .exit) ≡ stampBuffer self (now (out .entry)) ⌝ }
+        ensures for_every_list { λ r. ⌜ StampKept self (now (out .entry)) (now (out .exit)) r ⌝ }
+    {
+        let reply = self.stamp_refusal(out.len());
+        if reply.number() == 0 {
+            self.write_stamp(out);
+        }
+        Answered {
+            session: self,
+            reply,
+        }
+    }
+}

@@ -1,0 +1,124 @@
+// The session's values, by groups, and the answers of its calls.
+use card::object::FIELDS;
+use card::object::Part;
+ghost use mathlib.Core.Path.{_≡_};
+ghost use Rattle.session.specs.Operation.{replyNumber};
+
+// How many checks there are; `checks` in the definitions.
+pub const CHECKS: usize = 6;
+
+// The command that is sent next: that of the step, or GET RESPONSE with the second status byte of the answer just taken.
+pub enum Next {
+    Initial,
+    GetResponse(u8),
+}
+
+// What the opening gave: mode, date as the number YYYYMMDD, and the AID, the first `aid_len` bytes.
+pub struct Setting {
+    pub mode: u8,
+    pub date: u32,
+    pub aid: [u8; 16],
+    pub aid_len: usize,
+}
+
+// Where the reading of the card stands: the step, how many bytes of its data are in the object buffer, whether a command is outstanding, the next command, and the
+// cause (16 to 22, or 0) with the status word of the answer that gave cause 16.
+pub struct Progress {
+    pub step: u8,
+    pub filled: usize,
+    pub outstanding: bool,
+    pub next: Next,
+    pub cause: u8,
+    pub sw1: u8,
+    pub sw2: u8,
+}
+
+// What steps 1 and 2 gave: FASC-N and expiry (0 before step 1's good end), and where the fields of each step's object lie in the step's data.
+pub struct Card {
+    pub fascn: [u8; 25],
+    pub expiry: u32,
+    pub first: [Part; FIELDS],
+    pub second: [Part; FIELDS],
+}
+
+// A session. Outcomes stand in the order of the checks: 0 unneeded, 1 awaited, 2 passed, 3 failed, 4 other card.
+pub struct Session {
+    pub setting: Setting,
+    pub progress: Progress,
+    pub outcomes: [u8; CHECKS],
+    pub card: Card,
+}
+
+// What a call answers. `replyNumber` gives document 01's number of each case.
+pub enum Reply {
+    Accepted,
+    // open: mode not 1 to 4
+    WrongMode,
+    // open: date not real
+    UnrealDate,
+    // open: AID not 5 to 16 bytes
+    WrongAid,
+    // session dead or out of range
+    OutOfRange,
+    // command: step 3, a cause of 16 to 22, or a command outstanding
+    NothingToSend,
+    // answer: no command outstanding
+    NoCommandOutstanding,
+    // command, stamp: buffer too short
+    ShortBuffer,
+    // answer: object buffer not 8,192 bytes
+    WrongObjectBuffer,
+    // answer: under 2 or over 258 bytes
+    WrongAnswerLength,
+    // verdict: step not 3
+    NotAllRead,
+    // verdict: kind not 1 to 4
+    UnknownKind,
+    // verdict: neither 0 nor 1
+    UnknownVerdict,
+    // verdict: not 25 bytes, or ill-formed
+    WrongFascn,
+    // verdict: the mode does not need it
+    NotNeeded,
+    // verdict: of a kind that was given already
+    AlreadyGiven,
+}
+
+impl Reply {
+    // Document 01's number, 0 where the call is accepted.
+    pub fn number(self) -> u8
+        ensures { λ r. ⌜ r ≡ replyNumber self ⌝ }
+    {
+        match self {
+            Reply::Accepted => 0,
+            Reply::WrongMode => 1,
+            Reply::UnrealDate => 2,
+            Reply::WrongAid => 3,
+            Reply::OutOfRange => 4,
+            Reply::NothingToSend => 5,
+            Reply::NoCommandOutstanding => 5,
+            Reply::ShortBuffer => 6,
+            Reply::WrongObjectBuffer => 7,
+            Reply::WrongAnswerLength => 8,
+            Reply::NotAllRead => 9,
+            Reply::UnknownKind => 10,
+            Reply::UnknownVerdict => 11,
+            Reply::WrongFascn => 12,
+            Reply::NotNeeded => 13,
+            Reply::AlreadyGiven => 14,
+        }
+    }
+}
+
+// The session that is handed back, and the answer.
+pub struct Answered {
+    pub session: Session,
+    pub reply: Reply,
+}
+
+// The same of a command call, with the count of bytes that it wrote; 0 where it is refused.
+pub struct Commanded {
+    pub session: Session,
+    pub reply: Reply,
+    pub count: usize,
+}

@@ -1,0 +1,55 @@
+// Bytes copied into a buffer that is lent, and the lengths of arrays that stand in a struct.
+ghost use mathlib.Core.Path.{_≡_};
+ghost use Prim.Native.Nat.{_+_, _≤_};
+ghost use lib.ListN.{length, replicate};
+ghost use Rattle.card.specs.Range.{front, stored};
+
+// The bytes s over the front of out.
+fn put(out: &mut [u8], s: &[u8])
+    requires { ⌜ length (now s) ≤ length (now out) ⌝ }
+    ensures { λ r. ⌜ now (out .exit) ≡ front (now (s .entry)) (now (out .entry)) ⌝ }
+{
+    for i in 0..s.len() {
+        out[i] = s[i];
+    }
+}
+
+// The bytes s stored in out from place `at` on: the part of out that begins there is lent on.
+pub(crate) fn store(out: &mut [u8], at: usize, s: &[u8])
+    requires { ⌜ at + length (now s) ≤ length (now out) ⌝ }
+    ensures { λ r. ⌜ now (out .exit) ≡ stored (now (out .entry)) at (now (s .entry)) ⌝ }
+{
+    put(&mut out[at..], s);
+}
+
+// The bytes s as an array, zeros after them.
+pub(crate) fn array_16(s: &[u8]) -> [u8; 16]
+    requires { ⌜ length (now s) ≤ 16 ⌝ }
+    ensures { λ r. ⌜ r ≡ front (now (s .entry)) (replicate 16 0) ⌝ }
+{
+    let mut a = [0u8; 16];
+    put(&mut a, s);
+    a
+}
+
+pub(crate) fn array_25(s: &[u8]) -> [u8; 25]
+    requires { ⌜ length (now s) ≡ 25 ⌝ }
+    ensures { λ r. ⌜ r ≡ now (s .entry) ⌝ }
+{
+    let mut a = [0u8; 25];
+    put(&mut a, s);
+    a
+}
+
+// An array that comes out of a struct has its length: a caller learns it here.
+pub(crate) fn sized_6(a: [u8; 6])
+    ensures { λ r. ⌜ length a ≡ 6 ⌝ }
+{}
+
+pub(crate) fn sized_16(a: [u8; 16])
+    ensures { λ r. ⌜ length a ≡ 16 ⌝ }
+{}
+
+pub(crate) fn sized_25(a: [u8; 25])
+    ensures { λ r. ⌜ length a ≡ 25 ⌝ }
+{}

@@ -1,0 +1,178 @@
+// Document 01's tables by mode, step, check and verdict kind.
+use crate::state::CHECKS;
+use card::object::Kind;
+ghost use mathlib.Core.Path.{_≡_};
+ghost use Prim.Native.Nat.{_≤_, _<_};
+ghost use Rattle.session.specs.Tables.{checks, goodMode, goodKind, needs, checkOf, neededAt, neededOutcomes, outcomeOf, withOutcome, lowestFrom, causeOf, allPassed, standingOf, ends, kindAt, stepAfter, baseOf, stepOfTag};
+
+pub(crate) fn good_mode(mode: u8) -> bool
+    ensures { λ r. ⌜ r ≡ goodMode mode ⌝ }
+{
+    (1 <= mode) & (mode <= 4)
+}
+
+pub(crate) fn good_kind(kind: u8) -> bool
+    ensures { λ r. ⌜ r ≡ goodKind kind ⌝ }
+{
+    (1 <= kind) & (kind <= 4)
+}
+
+// Whether the mode needs the check: mode 1 needs 1 to 4, mode 2 needs 3 to 5, mode 3 needs 1 to 4 and 6, mode 4 all.
+pub(crate) fn needs(mode: u8, check: u8) -> bool
+    ensures { λ r. ⌜ r ≡ needs mode check ⌝ }
+{
+    if mode == 1 {
+        return (check == 1) | (check == 2) | (check == 3) | (check == 4);
+    }
+    if mode == 2 {
+        return (check == 3) | (check == 4) | (check == 5);
+    }
+    if mode == 3 {
+        return (check == 1) | (check == 2) | (check == 3) | (check == 4) | (check == 6);
+    }
+    (check == 1) | (check == 2) | (check == 3) | (check == 4) | (check == 5) | (check == 6)
+}
+
+// The check that a verdict kind serves.
+pub(crate) fn check_of(kind: u8) -> u8
+    ensures is { λ r. ⌜ r ≡ checkOf kind ⌝ }
+    ensures place { λ r. ⌜ (1 ≤ r) × (r ≤ checks) ⌝ }
+{
+    if kind == 1 {
+        return 1;
+    }
+    if kind == 2 {
+        return 2;
+    }
+    if kind == 3 { 5 } else { 6 }
+}
+
+// The outcome with which a check begins: 1 where the mode needs it, else 0.
+fn needed_at(mode: u8, i: usize) -> u8
+    requires { ⌜ i < checks ⌝ }
+    ensures { λ r. ⌜ r ≡ neededAt mode i ⌝ }
+{
+    if needs(mode, (i + 1) as u8) { 1 } else { 0 }
+}
+
+pub(crate) fn needed_outcomes(mode: u8) -> [u8; CHECKS]
+    ensures { λ r. ⌜ r ≡ neededOutcomes mode ⌝ }
+{
+    let mut o = [0u8; CHECKS];
+    for i in 0..CHECKS {
+        o[i] = needed_at(mode, i);
+    }
+    o
+}
+
+pub(crate) fn outcome_of(o: [u8; CHECKS], check: u8) -> u8
+    requires { ⌜ (1 ≤ check) × (check ≤ checks) ⌝ }
+    ensures { λ r. ⌜ r ≡ outcomeOf o check ⌝ }
+{
+    o[(check - 1) as usize]
+}
+
+pub(crate) fn with_outcome(o: [u8; CHECKS], check: u8, v: u8) -> [u8; CHECKS]
+    requires { ⌜ (1 ≤ check) × (check ≤ checks) ⌝ }
+    ensures { λ r. ⌜ r ≡ withOutcome o check v ⌝ }
+{
+    let mut out = o;
+    out[(check - 1) as usize] = v;
+    out
+}
+
+// The lowest check with outcome 3 or 4; 0 where there is none.
+fn lowest_failed(o: [u8; CHECKS]) -> u8
+    ensures { λ r. ⌜ r ≡ lowestFrom 1 o ⌝ }
+{
+    let mut lowest: usize = 0;
+    let mut i: usize = CHECKS;
+    while 0 < i {
+        if (o[i - 1] == 3) | (o[i - 1] == 4) {
+            lowest = i;
+        }
+        i -= 1;
+    }
+    lowest as u8
+}
+
+// The cause that a stamp shows: what arose in the reading, else the lowest failed check, else 0.
+pub(crate) fn cause_of(arose: u8, o: [u8; CHECKS]) -> u8
+    ensures { λ r. ⌜ r ≡ causeOf arose o ⌝ }
+{
+    if arose == 0 { lowest_failed(o) } else { arose }
+}
+
+// Whether each outcome that the mode needs is 2.
+fn all_passed(mode: u8, o: [u8; CHECKS]) -> bool
+    ensures { λ r. ⌜ r ≡ allPassed mode o ⌝ }
+{
+    let mut ok = true;
+    for i in 0..CHECKS {
+        let needed = needs(mode, (i + 1) as u8);
+        ok = ok & (!needed | (o[i] == 2));
+    }
+    ok
+}
+
+// 0 open, 1 granted, 2 rejected.
+pub(crate) fn standing_of(mode: u8, step: u8, cause: u8, o: [u8; CHECKS]) -> u8
+    ensures { λ r. ⌜ r ≡ standingOf mode step cause o ⌝ }
+{
+    if cause != 0 {
+        return 2;
+    }
+    let granted = (step == 3) & all_passed(mode, o);
+    if granted { 1 } else { 0 }
+}
+
+// A cause of 16 to 22 ends the reading.
+pub(crate) fn ends(cause: u8) -> bool
+    ensures { λ r. ⌜ r ≡ ends cause ⌝ }
+{
+    (16 <= cause) & (cause <= 22)
+}
+
+// The object that a step reads.
+pub(crate) fn kind_at(mode: u8, step: u8) -> Kind
+    ensures { λ r. ⌜ r ≡ kindAt mode step ⌝ }
+{
+    if step == 2 {
+        return Kind::Fingers;
+    }
+    if mode == 2 {
+        Kind::Unsigned
+    } else {
+        Kind::Signed
+    }
+}
+
+pub(crate) fn step_after(mode: u8, step: u8) -> u8
+    ensures { λ r. ⌜ r ≡ stepAfter mode step ⌝ }
+{
+    if step == 0 {
+        return 1;
+    }
+    if (step == 1) & ((mode == 3) | (mode == 4)) {
+        2
+    } else {
+        3
+    }
+}
+
+// Where a step's data begins in the object buffer.
+pub(crate) fn base_of(step: u8) -> usize
+    ensures { λ r. ⌜ r ≡ baseOf step ⌝ }
+{
+    if step == 2 { 4096 } else { 0 }
+}
+
+// The step whose object has the field with a tag; 0 for a tag that a field call may not ask for.
+pub(crate) fn step_of_tag(tag: u8) -> u8
+    ensures { λ r. ⌜ r ≡ stepOfTag tag ⌝ }
+{
+    if (tag == 0x30) | (tag == 0x34) | (tag == 0x35) | (tag == 0x3E) {
+        return 1;
+    }
+    if tag == 0xBC { 2 } else { 0 }
+}
