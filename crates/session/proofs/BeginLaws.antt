@@ -1,7 +1,7 @@
 -- A good opening: what holds of the reading that begins.
 -- Assumes nothing.
 use mathlib.Core.Path.{_≡_, refl}
-use mathlib.Core.Bool.{Bool, true, false, cond}
+use mathlib.Core.Bool.{true, cond}
 use mathlib.Core.List.{List, []}
 use Prim.Native.Nat.{ℕ, _+_, _<_}
 use native.Mathlib.Omega.{arith}
@@ -14,6 +14,7 @@ use Rattle.session.specs.Reading.{Opening, begins}
 use Rattle.session.specs.Finding.{verdictOn}
 use Rattle.session.specs.Operation.{opened}
 use Rattle.session.specs.Promise.{goodOpening}
+use Rattle.session.proofs.TestLaws.{either}
 use Rattle.session.proofs.Invariant.{session-of, Stage, Heard, Invariant}
 use Rattle.session.proofs.OutcomeLaws.{place-of, placed}
 
@@ -23,11 +24,9 @@ needed-at mode i h = getD-listOf checks (neededAt mode) i h
 
 needed-small : (mode : ℕ) → outcomesInRange (neededOutcomes mode) ≡ true
 unfolding outcomesInRange
-needed-small mode = all-of (λ i. leb (getD (neededOutcomes mode) i 0) 4) checks (λ i h. rw (needed-at mode i h) (go (needs mode (i + 1))))
-  where
-    go : (b : Bool) → leb (cond b 1 0) 4 ≡ true
-    go true = refl
-    go false = refl
+needed-small mode =
+    all-of (λ i. leb (getD (neededOutcomes mode) i 0) 4) checks
+    (λ i h. rw (needed-at mode i h) (either (λ (v : ℕ). leb v 4 ≡ true) (needs mode (i + 1)) {x = 1} {y = 0} refl refl))
 
 needed-six : (mode : ℕ) → length (neededOutcomes mode) ≡ checks
 unfolding neededOutcomes

@@ -1,7 +1,6 @@
 -- The object buffer: data stored after what a step holds is held with it, and what stands before stays.
 -- Assumes nothing.
 use mathlib.Core.Path.{_≡_, _∙_}
-use mathlib.Core.Bool.{Bool, true, false, cond}
 use mathlib.Core.List.{List, _++_, append-assoc}
 use Prim.Native.Nat.{ℕ, _+_, _≤_}
 use native.Mathlib.Omega.{arith}
@@ -10,6 +9,7 @@ use lib.ListN.{length, take, drop, length-append, length-take, length-drop}
 use lib.Seq.{take-append-seam, take-append-add, take-add, take-append-le, drop-at, length-take-le, take-take}
 use Rattle.card.specs.Range.{stored}
 use Rattle.session.specs.Tables.{baseOf}
+use Rattle.session.proofs.TestLaws.{either}
 
 -- data that is stored after what is held
 module _ (m j xs : List ℕ) (base : ℕ) (fits : base + length j + length xs ≤ length m) (held : take (length j) (drop base m) ≡ j) where
@@ -37,8 +37,4 @@ stored-length m xs at h = simp (length-append, length-take, length-drop) (omega 
 -- ---- where a step's data begins
 
 pub base-most : (step : ℕ) → baseOf step ≤ 4096
-base-most step = go (eqb step 2)
-  where
-    go : (b : Bool) → cond {A = ℕ} b 4096 0 ≤ 4096
-    go true = omega arith
-    go false = omega arith
+base-most step = either (λ (n : ℕ). n ≤ 4096) (eqb step 2) (omega arith) (omega arith)

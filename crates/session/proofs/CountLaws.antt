@@ -16,7 +16,7 @@ use Rattle.session.specs.Tables.{ends, hasStep2, isResponse, dataOf, sta
 use Rattle.session.specs.Ranges.{causeInRange}
 use Rattle.session.specs.Condition.{commandConditions, answerConditions}
 use Rattle.session.specs.Reading.{Opening, Told, Course, Reading, begins, atStep, nextCommand, commandRefused, sending, answerRefused, stopped, continued, goodEnd, judged, appended, causeBy, answered, verdictRefused, heard, refusedBy, read, takes, answersIn, answers}
-use Rattle.session.proofs.TestLaws.{clash, or-left, or-right}
+use Rattle.session.proofs.TestLaws.{clash, or-left, or-right, either}
 use Rattle.session.proofs.ConditionLaws.{none-fit}
 use Rattle.session.proofs.RuleLaws.{rule-in-range, joined-in-range}
 
@@ -40,12 +40,7 @@ left k s u = cond (ltb k s) 0 (cond (ltb s k) 4098 (4098 - u))
 
 left-most : (k s u : ℕ) → left k s u ≤ 4098
 unfolding left
-left-most k s u = go (ltb k s) (ltb s k)
-  where
-    go : (x y : Bool) → cond x 0 (cond y 4098 (4098 - u)) ≤ 4098
-    go true y = omega arith
-    go false true = omega arith
-    go false false = omega arith
+left-most k s u = either (λ (n : ℕ). n ≤ 4098) (ltb k s) (omega arith) (either (λ (n : ℕ). n ≤ 4098) (ltb s k) (omega arith) (omega arith))
 
 left-past : (k s u : ℕ) → k < s → left k s u ≡ 0
 unfolding left
@@ -130,11 +125,7 @@ sending-none r room h e =
 -- ---- an answer
 
 asked-most : (c : Course) → Countable c → asked c ≤ 4097
-asked-most c h = go (isResponse (c .next)) (h .small)
-  where
-    go : (b : Bool) → length (c .joined) ≤ 4096 → cond b (length (c .joined) + 1) 0 ≤ 4097
-    go true l = omega arith
-    go false l = omega arith
+asked-most c h = let l = h .small in either (λ (n : ℕ). n ≤ 4097) (isResponse (c .next)) (omega arith) (omega arith)
 
 -- an answer that is appended and after which more data is asked for: it is the first of its step, or it brings a byte
 rule-brings : (second : ℕ) (response : Bool) (n total most : ℕ) → ruleCause (More second) response n total most ≡ 0
@@ -148,10 +139,6 @@ rule-brings second response n total most e =
     go x false p q = omega arith
     go true true p q = clash (sym q)
     go false true p q = let z = eqb-false n 0 p in omega arith
-
-two-or-three : (b : Bool) → (1 < cond b 2 3) × (cond b 2 3 ≤ 3)
-two-or-three true = (omega arith, omega arith)
-two-or-three false = (omega arith, omega arith)
 
 module _ (r : Reading) (h : Countable (r .course)) (below : r .course .step < 3) (no-cause : ends (r .course .cause) ≡ false) where
   stops : (k a b : ℕ) → causeInRange k ≡ true → eqb k 0 ≡ false → Spends true (r .course) (stopped (r .course) k a b)
@@ -189,7 +176,7 @@ module _ (r : Reading) (h : Countable (r .course)) (below : r .course .step < 3)
   ends-well joined cancelled =
       choose _ _ (eqb (r .course .step) 0) (λ e. moves 1 (let z = eqb-true (r .course .step) 0 e in omega arith) (omega arith))
       (λ _. choose _ _ (eqb (r .course .step) 1)
-      (λ e. let z = eqb-true (r .course .step) 1 e in let t = two-or-three (hasStep2 (r .opening .mode)) in moves _ (rw z (t .0)) (t .1))
+      (λ e. let z = eqb-true (r .course .step) 1 e in let t = either (λ (n : ℕ). (1 < n) × (n ≤ 3)) (hasStep2 (r .opening .mode)) {x = 2} {y = 3} (omega arith, omega arith) (omega arith, omega arith) in moves _ (rw z (t .0)) (t .1))
       (λ _. moves 3 below (omega arith)))
 
   judges : (joined cancelled : List ℕ) → Spends true (r .course) (judged r joined cancelled .course)

@@ -21,7 +21,7 @@ use Rattle.session.specs.Promise.{Host}
 use Rattle.session.specs.Operation.{nextStep, secondRead}
 use Rattle.session.specs.Promise.{Bytes}
 use Rattle.session.specs.declared.state.Session.{Session}
-use Rattle.session.proofs.TestLaws.{clash, by-test}
+use Rattle.session.proofs.TestLaws.{clash, by-test, either}
 use Rattle.session.proofs.ConditionLaws.{none-fit}
 use Rattle.session.proofs.OutcomeLaws.{place-of, placed, set-in-range, expiry-small, list-small}
 use Rattle.session.proofs.Invariant.{session-of, Kept, GoodOne, OneKept, TwoKept, Stage, Heard, Judged, GoodCourse, Invariant, Reaches}
@@ -111,11 +111,8 @@ after-one mode = go (hasStep2 mode) refl
     go false e = refl
 
 one-stage : (mode : ℕ) (one : StepOne) → Stage (stepAfter mode 1) (record { first = Option.some one; second = Option.none; verdicts = [] })
-one-stage mode one = go (hasStep2 mode)
-  where
-    go : (b : Bool) → Stage (cond b 2 3) (record { first = Option.some one; second = Option.none; verdicts = [] })
-    go true = Stage.between refl one refl
-    go false = Stage.late refl one refl
+one-stage mode one =
+    either (λ (n : ℕ). Stage n (record { first = Option.some one; second = Option.none; verdicts = [] })) (hasStep2 mode) (Stage.between refl one refl) (Stage.late refl one refl)
 
 one-end : (r : Reading) (m m′ xs cancelled : List ℕ) → Invariant r m → Leaves r m′ → r .course .step ≡ 1 → Bytes xs → Kept xs m′ 0 → joinedCause (r .opening .mode) 1 xs ≡ 0
     → Invariant (record { opening = r .opening; course = atStep (stepAfter (r .opening .mode) 1); outcomes = judgedOutcomes (r .opening .mode) (r .opening .date) (r .outcomes) xs cancelled; found = record { first = Option.some (record { joined = xs; cancelled = cancelled }); second = r .found .second; verdicts = r .found .verdicts } }) m′

@@ -16,23 +16,21 @@ use Rattle.card.proofs.FascnLaws.{same-bytes, same-refl}
 use Rattle.session.specs.Tables.{checks, goodKind, needs, isIn, checkOf, outcomeOf, passed, unneeded, failed, otherCard, verdictOutcome, expiryOutcome, listed, listOutcome, lowestFrom, causeOf, allPassed, standingOf, fascnIn, keyIn, expiryIn}
 use Rattle.session.specs.Reading.{Opening, StepOne, Verdict, Found, Reading, ownFascn}
 use Rattle.session.specs.Finding.{finding, standing, Granted}
-use Rattle.session.proofs.TestLaws.{clash, and-left, and-right}
+use Rattle.session.proofs.TestLaws.{clash, and-left, and-right, either}
 use Rattle.session.proofs.OutcomeLaws.{place-of, placed}
 use Rattle.session.proofs.Invariant.{Stage, Heard, ExpiryJudged, ListJudged, Judged, Invariant}
 
 -- ---- checks and kinds
 
 -- every mode needs checks 3 and 4
+abbrev Both : List ℕ → Type 0
+Both cs = (isIn 3 cs ≡ true) × (isIn 4 cs ≡ true)
+
 needs-both : (mode : ℕ) → (needs mode 3 ≡ true) × (needs mode 4 ≡ true)
 unfolding needs
-needs-both mode = go (eqb mode 1) (eqb mode 2) (eqb mode 3)
-  where
-    go : (a b c : Bool) → let cs = cond {A = List ℕ} a (1 ∷ 2 ∷ 3 ∷ 4 ∷ []) (cond b (3 ∷ 4 ∷ 5 ∷ []) (cond c (1 ∷ 2 ∷ 3 ∷ 4 ∷ 6 ∷ []) (1 ∷ 2 ∷ 3 ∷ 4 ∷ 5 ∷ 6 ∷ []))) in
-        (isIn 3 cs ≡ true) × (isIn 4 cs ≡ true)
-    go true b c = (refl, refl)
-    go false true c = (refl, refl)
-    go false false true = (refl, refl)
-    go false false false = (refl, refl)
+needs-both mode =
+    either Both (eqb mode 1) {x = 1 ∷ 2 ∷ 3 ∷ 4 ∷ []} (refl, refl)
+    (either Both (eqb mode 2) {x = 3 ∷ 4 ∷ 5 ∷ []} (refl, refl) (either Both (eqb mode 3) {x = 1 ∷ 2 ∷ 3 ∷ 4 ∷ 6 ∷ []} {y = 1 ∷ 2 ∷ 3 ∷ 4 ∷ 5 ∷ 6 ∷ []} (refl, refl) (refl, refl)))
 
 -- checks 3 and 4, where step 1 has ended well
 expiry-judged : {p : Opening} {o : List ℕ} {f : Found} {one : StepOne} → Judged p o f → f .first ≡ Option.some one

@@ -13,7 +13,7 @@ use Rattle.card.specs.Range.{sameBytes}
 use Rattle.card.proofs.RangeLaws.{all-at, all-of}
 use Rattle.session.specs.Tables.{checks, goodKind, checkOf, verdictOutcome, expiryOutcome, listed, listOutcome}
 use Rattle.session.specs.Ranges.{outcomesInRange}
-use Rattle.session.proofs.TestLaws.{clash, and-right}
+use Rattle.session.proofs.TestLaws.{clash, and-right, either}
 
 -- ---- the places of the checks that verdicts serve
 
@@ -55,14 +55,12 @@ places-apart k l p q e = sym (placed k p .back) ∙ ap kind-of e ∙ placed l q 
 
 -- ---- outcomes are 0 to 4
 
+abbrev Small : ℕ → Type 0
+Small v = leb v 4 ≡ true
+
 pub verdict-small : (own : List ℕ) (says : ℕ) (fascn : List ℕ) → leb (verdictOutcome own says fascn) 4 ≡ true
 unfolding verdictOutcome
-verdict-small own says fascn = go (eqb says 0) (sameBytes fascn own)
-  where
-    go : (x y : Bool) → leb (cond x 3 (cond y 2 4)) 4 ≡ true
-    go true y = refl
-    go false true = refl
-    go false false = refl
+verdict-small own says fascn = either Small (eqb says 0) {x = 3} refl (either Small (sameBytes fascn own) {x = 2} {y = 4} refl refl)
 
 -- outcomes stay in range where one that is in range is set
 pub set-in-range : (o : List ℕ) (p v : ℕ) → p < length o → leb v 4 ≡ true → outcomesInRange o ≡ true → outcomesInRange (set o p v) ≡ true
@@ -75,16 +73,8 @@ set-in-range o p v h s e = all-of (λ i. leb (getD (set o p v) i 0) 4) checks (�
 
 pub expiry-small : (date expiry : ℕ) → leb (expiryOutcome date expiry) 4 ≡ true
 unfolding expiryOutcome
-expiry-small date expiry = go (leb date expiry)
-  where
-    go : (b : Bool) → leb (cond b 2 3) 4 ≡ true
-    go true = refl
-    go false = refl
+expiry-small date expiry = either Small (leb date expiry) {x = 2} {y = 3} refl refl
 
 pub list-small : (key : ℕ) (cancelled : List ℕ) → leb (listOutcome key cancelled) 4 ≡ true
 unfolding listOutcome
-list-small key cancelled = go (listed key cancelled)
-  where
-    go : (b : Bool) → leb (cond b 3 2) 4 ≡ true
-    go true = refl
-    go false = refl
+list-small key cancelled = either Small (listed key cancelled) {x = 3} {y = 2} refl refl

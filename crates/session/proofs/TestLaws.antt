@@ -34,3 +34,8 @@ or-right false b e = e
 pub by-test : {A B : Type 0} (P : A → B → Type 0) (x y : A) (u v : B) (b : Bool) → (b ≡ true → P x u) → (b ≡ false → P y v) → P (cond b x y) (cond b u v)
 by-test P x y u v true f g = f refl
 by-test P x y u v false f g = g refl
+
+-- a choice between two that have a property has it
+pub either : {A : Type 0} (P : A → Type 0) (b : Bool) {x y : A} → P x → P y → P (cond b x y)
+either P true p q = p
+either P false p q = q
