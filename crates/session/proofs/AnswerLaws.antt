@@ -16,13 +16,14 @@ use Rattle.session.specs.Tables.{baseOf, objectSize, isResponse, joinedC
 use Rattle.session.specs.Condition.{answerConditions}
 use Rattle.session.specs.Reading.{Found, Reading, withCourse, answerRefused, stopped, continued, judged, appended, causeBy, answered}
 use Rattle.session.specs.Ranges.{causeInRange}
-use Rattle.session.specs.Operation.{statusShown, withProgress, ended, more, joinedIn, judgedSession, appendedSession, takenSession, takenBuffer, answerRefusal}
+use Rattle.session.specs.Operation.{withProgress, ended, more, joinedIn, judgedSession, appendedSession, takenSession, takenBuffer, answerRefusal}
+use Rattle.session.specs.Tables.{statusShown}
 use Rattle.session.specs.Promise.{Bytes}
 use Rattle.session.proofs.TestLaws.{clash, and-left, and-right, by-test}
 use Rattle.session.proofs.ConditionLaws.{none-fit}
 use Rattle.session.proofs.RuleLaws.{rule-in-range, rule-fits, joined-in-range}
 use Rattle.session.proofs.BytesLaws.{append-bytes}
-use Rattle.session.proofs.Invariant.{session-of, progress-of, Kept, GoodOne, OneKept, TwoKept, Stage, Invariant, Reaches}
+use Rattle.session.proofs.Invariant.{session-of, progress-of, Kept, GoodOne, OneKept, TwoKept, Stage, Invariant, Leads}
 use Rattle.session.proofs.InRangeLaws.{in-range}
 use Rattle.session.proofs.BufferLaws.{holds-more, holds-still, before-stays, stored-length, base-most}
 use Rattle.session.proofs.GoodEndLaws.{Leaves, good-end}
@@ -40,7 +41,7 @@ shown-none false = refl
 
 stops : (r : Reading) (m m′ : List ℕ) (k sw1 sw2 : ℕ) → Invariant r m → Leaves r m′ → r .course .step < 3 → causeInRange k ≡ true
     → statusShown k sw1 ≡ sw1 → statusShown k sw2 ≡ sw2
-    → Reaches (record { session = withProgress (session-of r) (ended (progress-of (r .course)) k sw1 sw2); object = m′ }) (withCourse r (stopped (r .course) k sw1 sw2))
+    → Leads (withProgress (session-of r) (ended (progress-of (r .course)) k sw1 sw2)) m′ (withCourse r (stopped (r .course) k sw1 sw2))
 stops r m m′ k sw1 sw2 i l lt c p q =
     record {
       object = m′;
@@ -60,11 +61,11 @@ stops r m m′ k sw1 sw2 i l lt c p q =
 
 judges : (r : Reading) (m m′ : List ℕ) (xs cancelled : List ℕ) → Invariant r m → Leaves r m′ → r .course .step < 3 → length xs ≤ 4096 → Bytes xs
     → take (length xs) (drop (baseOf (r .course .step)) m′) ≡ xs
-    → Reaches (record { session = judgedSession (session-of r) xs cancelled; object = m′ }) (judged r xs cancelled)
+    → Leads (judgedSession (session-of r) xs cancelled) m′ (judged r xs cancelled)
 unfolding judgedSession judged
 judges r m m′ xs cancelled i l lt small b held =
     let k = joinedCause (r .opening .mode) (r .course .step) xs in
-    by-test (λ (s : Session) (q : Reading). Reaches (record { session = s; object = m′ }) q) _ _ _ _ (eqb (joinedCause (r .opening .mode) (r .course .step) xs) 0)
+    by-test (λ (s : Session) (q : Reading). Leads s m′ q) _ _ _ _ (eqb (joinedCause (r .opening .mode) (r .course .step) xs) 0)
     (λ e. good-end r m m′ xs cancelled i l lt small b held (eqb-true _ 0 e))
     (λ e. stops r m m′ k 0 0 i l lt (joined-in-range (r .opening .mode) (r .course .step) xs) (shown-none (eqb k 16)) (shown-none (eqb k 16)))
 
@@ -111,7 +112,7 @@ module _ (r : Reading) (m xs : List ℕ) (i : Invariant r m) (size : length m �
   new-held = rw length-append (holds-more m old xs base room (i .held))
 
   -- after 61
-  continues : (second : ℕ) → Reaches (record { session = withProgress (session-of r) (more (progress-of (r .course)) (length xs) second); object = stored m (base + length old) xs }) (withCourse r (continued (r .course) (old ++ xs) second))
+  continues : (second : ℕ) → Leads (withProgress (session-of r) (more (progress-of (r .course)) (length xs) second)) (stored m (base + length old) xs) (withCourse r (continued (r .course) (old ++ xs) second))
   continues second =
       record {
         object = stored m (base + length old) xs;
@@ -128,27 +129,27 @@ module _ (r : Reading) (m xs : List ℕ) (i : Invariant r m) (size : length m �
       }
 
   -- after 90 00
-  joins : (cancelled : List ℕ) → Reaches (record { session = judgedSession (session-of r) (joinedIn (progress-of (r .course)) (stored m (base + length old) xs) (length xs)) cancelled; object = stored m (base + length old) xs }) (judged r (old ++ xs) cancelled)
+  joins : (cancelled : List ℕ) → Leads (judgedSession (session-of r) (joinedIn (progress-of (r .course)) (stored m (base + length old) xs) (length xs)) cancelled) (stored m (base + length old) xs) (judged r (old ++ xs) cancelled)
   unfolding joinedIn
   joins cancelled =
       rw (holds-more m old xs base room (i .held))
       (judges r m (stored m (base + length old) xs) (old ++ xs) cancelled i leaves-more lt (rw length-append fits) (append-bytes old xs (i .course-good .bytes) bytes) new-held)
 
   appends : (st : Status) (cancelled : List ℕ)
-      → Reaches (record { session = appendedSession st (session-of r) (joinedIn (progress-of (r .course)) (stored m (base + length old) xs) (length xs)) (length xs) cancelled; object = stored m (base + length old) xs }) (appended st r (old ++ xs) cancelled)
+      → Leads (appendedSession st (session-of r) (joinedIn (progress-of (r .course)) (stored m (base + length old) xs) (length xs)) (length xs) cancelled) (stored m (base + length old) xs) (appended st r (old ++ xs) cancelled)
   appends (More second) cancelled = continues second
   appends Done cancelled = joins cancelled
   appends Other cancelled = joins cancelled
 
 -- ---- every answer that is accepted
 
-both : (s₁ s₂ : Session) (m₁ m₂ : List ℕ) (r₁ r₂ : Reading) (b : Bool) → (b ≡ true → Reaches (record { session = s₁; object = m₁ }) r₁) → (b ≡ false → Reaches (record { session = s₂; object = m₂ }) r₂)
-    → Reaches (record { session = cond b s₁ s₂; object = cond b m₁ m₂ }) (cond b r₁ r₂)
+both : (s₁ s₂ : Session) (m₁ m₂ : List ℕ) (r₁ r₂ : Reading) (b : Bool) → (b ≡ true → Leads s₁ m₁ r₁) → (b ≡ false → Leads s₂ m₂ r₂)
+    → Leads (cond b s₁ s₂) (cond b m₁ m₂) (cond b r₁ r₂)
 both s₁ s₂ m₁ m₂ r₁ r₂ true f g = f refl
 both s₁ s₂ m₁ m₂ r₁ r₂ false f g = g refl
 
 pub takes-answer : (r : Reading) (m xs status cancelled : List ℕ) → Invariant r m → length m ≡ objectSize → r .course .step < 3 → Bytes xs
-    → Reaches (record { session = takenSession (session-of r) m xs status cancelled; object = takenBuffer (session-of r) m xs status }) (answered r xs status cancelled)
+    → Leads (takenSession (session-of r) m xs status cancelled) (takenBuffer (session-of r) m xs status) (answered r xs status cancelled)
 unfolding takenSession takenBuffer answered
 takes-answer r m xs status cancelled i size lt b =
     let st = statusOf status in

@@ -14,7 +14,7 @@ use Rattle.card.specs.Object.{objectOf, fieldValue}
 use Rattle.card.specs.Fascn.{unpackOf}
 use Rattle.card.specs.Date.{dateOf}
 use Rattle.session.specs.Tables.{checkOf, outcomeOf, expiryOutcome, listOutcome, judgedOutcomes, hasStep2, kindAt, stepAfter, baseOf, objectSize, fascnIn, keyIn, expiryIn, objectCause, joinedCause}
-use Rattle.session.specs.Reading.{Opening, StepOne, Verdict, Found, Reading, withCourse, atStep, goodEnd, ownFascn}
+use Rattle.session.specs.Reading.{Opening, StepOne, Verdict, Found, Reading, withCourse, atStep, firstEnd, secondEnd, goodEnd, ownFascn}
 use Rattle.session.specs.Finding.{verdictOn}
 use Rattle.session.specs.Ranges.{stepInRange}
 use Rattle.session.specs.Promise.{Host}
@@ -24,7 +24,7 @@ use Rattle.session.specs.declared.state.Session.{Session}
 use Rattle.session.proofs.TestLaws.{clash, by-test, either}
 use Rattle.session.proofs.ConditionLaws.{none-fit}
 use Rattle.session.proofs.OutcomeLaws.{place-of, placed, set-in-range, expiry-small, list-small}
-use Rattle.session.proofs.Invariant.{session-of, Kept, GoodOne, OneKept, TwoKept, Stage, Heard, Judged, GoodCourse, Invariant, Reaches}
+use Rattle.session.proofs.Invariant.{session-of, Kept, GoodOne, OneKept, TwoKept, Stage, Heard, Judged, GoodCourse, Invariant, Leads}
 
 -- a buffer that has all that a reading needs of it
 pub record Leaves (r : Reading) (m : List ℕ) : Type 0 where
@@ -115,7 +115,7 @@ one-stage mode one =
     either (λ (n : ℕ). Stage n (record { first = Option.some one; second = Option.none; verdicts = [] })) (hasStep2 mode) (Stage.between refl one refl) (Stage.late refl one refl)
 
 one-end : (r : Reading) (m m′ xs cancelled : List ℕ) → Invariant r m → Leaves r m′ → r .course .step ≡ 1 → Bytes xs → Kept xs m′ 0 → joinedCause (r .opening .mode) 1 xs ≡ 0
-    → Invariant (record { opening = r .opening; course = atStep (stepAfter (r .opening .mode) 1); outcomes = judgedOutcomes (r .opening .mode) (r .opening .date) (r .outcomes) xs cancelled; found = record { first = Option.some (record { joined = xs; cancelled = cancelled }); second = r .found .second; verdicts = r .found .verdicts } }) m′
+    → Invariant (firstEnd r xs cancelled) m′
 one-end r m m′ xs cancelled i l e b k good =
     let mode = r .opening .mode in
     let one : StepOne = record { joined = xs; cancelled = cancelled } in
@@ -133,7 +133,7 @@ one-end r m m′ xs cancelled i l e b k good =
 -- ---- step 2
 
 two-end : (r : Reading) (m m′ xs : List ℕ) → Invariant r m → Leaves r m′ → r .course .step ≡ 2 → Kept xs m′ 4096
-    → Invariant (record { opening = r .opening; course = atStep 3; outcomes = r .outcomes; found = record { first = r .found .first; second = Option.some xs; verdicts = r .found .verdicts } }) m′
+    → Invariant (secondEnd r xs) m′
 two-end r m m′ xs i l e k =
     record { opening = i .opening; course-good = begun-course (r .opening .mode) 3 refl; held = refl; one = l .one; two = k; stage = up (r .course .step) (r .found) e (i .stage); judged = record { six = i .judged .six; small = i .judged .small; verdicts = i .judged .verdicts; expiry = i .judged .expiry; list = i .judged .list } }
   where
@@ -146,13 +146,13 @@ two-end r m m′ xs i l e k =
 
 pub good-end : (r : Reading) (m m′ xs cancelled : List ℕ) → Invariant r m → Leaves r m′ → r .course .step < 3 → length xs ≤ 4096 → Bytes xs
     → take (length xs) (drop (baseOf (r .course .step)) m′) ≡ xs → joinedCause (r .opening .mode) (r .course .step) xs ≡ 0
-    → Reaches (record { session = nextStep (session-of r) xs cancelled; object = m′ }) (goodEnd r xs cancelled)
+    → Leads (nextStep (session-of r) xs cancelled) m′ (goodEnd r xs cancelled)
 unfolding nextStep goodEnd
 good-end r m m′ xs cancelled i l lt small b held good =
     let step = r .course .step in
-    by-test (λ (s : Session) (q : Reading). Reaches (record { session = s; object = m′ }) q) _ _ _ _ (eqb step 0)
+    by-test (λ (s : Session) (q : Reading). Leads s m′ q) _ _ _ _ (eqb step 0)
     (λ e. record { object = m′; same = refl; holds = template-end r m m′ i l (eqb-true step 0 e) })
-    (λ e0. by-test (λ (s : Session) (q : Reading). Reaches (record { session = s; object = m′ }) q) _ _ _ _ (eqb step 1)
+    (λ e0. by-test (λ (s : Session) (q : Reading). Leads s m′ q) _ _ _ _ (eqb step 1)
     (λ e. let e1 = eqb-true step 1 e in record { object = m′; same = refl; holds = one-end r m m′ xs cancelled i l e1 b (kept step 0 (ap baseOf e1) held) (subst (λ (n : ℕ). joinedCause (r .opening .mode) n xs ≡ 0) e1 good) })
     (λ e1. let e2 = last step lt (eqb-false step 0 e0) (eqb-false step 1 e1) in record { object = m′; same = second step e2; holds = two-end r m m′ xs i l e2 (kept step 4096 (ap baseOf e2) held) }))
   where

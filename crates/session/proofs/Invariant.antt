@@ -15,7 +15,8 @@ use Rattle.session.specs.Tables.{checks, goodKind, needs, checkOf, outco
 use Rattle.session.specs.Reading.{Opening, Course, StepOne, Verdict, Found, Reading, ownFascn}
 use Rattle.session.specs.Finding.{verdictOn}
 use Rattle.session.specs.Ranges.{stepInRange, causeInRange, outstandingInRange, outcomesInRange}
-use Rattle.session.specs.Operation.{noParts, statusShown}
+use Rattle.session.specs.Operation.{noParts}
+use Rattle.session.specs.Tables.{statusShown}
 use Rattle.session.specs.Promise.{Bytes, Host, goodOpening}
 use Rattle.session.specs.declared.state.Setting.{Setting}
 use Rattle.session.specs.declared.state.Progress.{Progress}
@@ -136,6 +137,10 @@ pub record Reaches (h : Host) (r : Reading) : Type 0 where
   pub object : List ℕ
   pub same : h ≡ host-of r object
   pub holds : Invariant r object
+
+-- the same of its session and its buffer
+abbrev pub Leads : Session → List ℕ → Reading → Type 0
+Leads s m r = Reaches (record { session = s; object = m }) r
 
 pub stays : (r : Reading) (m : List ℕ) → Invariant r m → Reaches (host-of r m) r
 stays r m i = record { object = m; same = refl; holds = i }

@@ -18,7 +18,7 @@ use Rattle.session.specs.Condition.{openConditions}
 use Rattle.session.specs.Reading.{refusedBy}
 use Rattle.session.specs.Finding.{Finding, finding, standing, stampOf}
 use Rattle.session.specs.Operation.{replyNumber, given, commandGiven, dead, opened, openRefusal, openOf, commandOf, commandBuffer, answerRefusal, answerOf, answerBuffer, verdictOf, fieldOf, stampAnswer, stampBuffer}
-use Rattle.session.specs.Promise.{Call, told, Host, numberOf, after, run, Bytes, LentNow, Lent, goodOpening, History, start, now, readingOf, stampFor, GoesOn, OpenKept, CommandKept, AnswerKept, VerdictKept, FieldKept, StampKept}
+use Rattle.session.specs.Promise.{Call, told, Host, numberOf, after, run, Bytes, LentNow, Lent, goodOpening, History, start, finish, readingOf, stampFor, GoesOn, OpenKept, CommandKept, AnswerKept, VerdictKept, FieldKept, StampKept}
 use Rattle.session.specs.declared.state.Session.{Session}
 use Rattle.session.specs.declared.state.Answered.{Answered}
 use Rattle.session.specs.declared.state.Commanded.{Commanded}
@@ -38,7 +38,7 @@ lent-more : (cs : List Call) (h : Host) (c : Call) → Lent h cs → LentNow (ru
 lent-more [] h c l k = (k, tt)
 lent-more (x ∷ cs) h c l k = (l .0, lent-more cs (after h x) c (l .1) k)
 
-goes-on : (h : History) (c : Call) (s : Session) (object : List ℕ) → LentNow (now h) c → after (now h) c ≡ record { session = s; object = object } → GoesOn h c s object
+goes-on : (h : History) (c : Call) (s : Session) (object : List ℕ) → LentNow (finish h) c → after (finish h) c ≡ record { session = s; object = object } → GoesOn h c s object
 goes-on h c s object l e =
     record {
       history = record { opening = h .opening; good = h .good; object = h .object; calls = h .calls ++ (c ∷ []); lent = lent-more (h .calls) (start h) c (h .lent) l };
@@ -49,7 +49,7 @@ goes-on h c s object l e =
     }
 
 -- the number of a call made next is the reading's
-number-next : (h : History) (c : Call) → numberOf (now h) c ≡ refusedBy (readingOf h) (told c)
+number-next : (h : History) (c : Call) → numberOf (finish h) c ≡ refusedBy (readingOf h) (told c)
 number-next h c = let a = reached h in ap (λ (x : Host). numberOf x c) (a .same) ∙ number-is (readingOf h) (a .object) c (a .holds)
 
 -- ---- open
@@ -82,12 +82,12 @@ open-kept mode date aid r e z object =
 pub command-kept : (s : Session) (before left : List ℕ) (r : Commanded) → commandGiven r ≡ commandOf s (length before) → left ≡ commandBuffer s before → CommandKept s before left r
 command-kept s before left r e b h es =
     let p = promise h in
-    let g : commandGiven r ≡ commandOf (now h .session) (length before) = e ∙ ap (λ (x : Session). commandOf x (length before)) es in
+    let g : commandGiven r ≡ commandOf (finish h .session) (length before) = e ∙ ap (λ (x : Session). commandOf x (length before)) es in
     record {
       number = ap (λ (x : ℕ × ℕ × Session). x .0) g ∙ p .command-number before;
       count = ap (λ (x : ℕ × ℕ × Session). x .1) g ∙ p .command-count before;
       bytes = b ∙ ap (λ (x : Session). commandBuffer x before) es ∙ p .command-bytes before;
-      goes-on = goes-on h (Call.command before) (r .session) (now h .object) tt (ap (λ (x : ℕ × ℕ × Session). record { session = x .2; object = now h .object }) (sym g));
+      goes-on = goes-on h (Call.command before) (r .session) (finish h .object) tt (ap (λ (x : ℕ × ℕ × Session). record { session = x .2; object = finish h .object }) (sym g));
     }
 
 -- ---- answer
@@ -104,8 +104,8 @@ left-is s object bytes = left-same (eqb (answerRefusal s (length object) (length
 pub answer-kept : (s : Session) (object bytes cancelled left : List ℕ) (r : Answered) → Bytes bytes → given r ≡ answerOf s object bytes cancelled → left ≡ answerBuffer s object bytes
     → AnswerKept s object bytes cancelled left r
 answer-kept s object bytes cancelled left r b e w h es eo =
-    let g : given r ≡ answerOf (now h .session) object bytes cancelled = e ∙ ap (λ (x : Session). answerOf x object bytes cancelled) es in
-    let buffer : cond (eqb (answerRefusal (now h .session) (length object) (length bytes)) 0) (answerBuffer (now h .session) object bytes) (now h .object) ≡ left =
+    let g : given r ≡ answerOf (finish h .session) object bytes cancelled = e ∙ ap (λ (x : Session). answerOf x object bytes cancelled) es in
+    let buffer : cond (eqb (answerRefusal (finish h .session) (length object) (length bytes)) 0) (answerBuffer (finish h .session) object bytes) (finish h .object) ≡ left =
     ap₂ (λ (x : Session) (l : List ℕ). cond (eqb (answerRefusal x (length object) (length bytes)) 0) (answerBuffer x object bytes) l) (sym es) (sym eo) ∙ left-is s object bytes ∙ sym w in
     record {
       number = ap (λ (x : ℕ × Session). x .0) g ∙ number-next h (Call.answer object bytes cancelled);
@@ -116,10 +116,10 @@ answer-kept s object bytes cancelled left r b e w h es eo =
 
 pub verdict-kept : (s : Session) (kind says : ℕ) (fascn : List ℕ) (r : Answered) → given r ≡ verdictOf s kind says fascn → VerdictKept s kind says fascn r
 verdict-kept s kind says fascn r e h es =
-    let g : given r ≡ verdictOf (now h .session) kind says fascn = e ∙ ap (λ (x : Session). verdictOf x kind says fascn) es in
+    let g : given r ≡ verdictOf (finish h .session) kind says fascn = e ∙ ap (λ (x : Session). verdictOf x kind says fascn) es in
     record {
       number = ap (λ (x : ℕ × Session). x .0) g ∙ number-next h (Call.verdict kind says fascn);
-      goes-on = goes-on h (Call.verdict kind says fascn) (r .session) (now h .object) tt (ap (λ (x : ℕ × Session). record { session = x .1; object = now h .object }) (sym g));
+      goes-on = goes-on h (Call.verdict kind says fascn) (r .session) (finish h .object) tt (ap (λ (x : ℕ × Session). record { session = x .1; object = finish h .object }) (sym g));
     }
 
 -- ---- field
@@ -142,7 +142,7 @@ stamp-kept s before left r e b h es =
     let p = promise h in
     let f = finding (readingOf h) in
     let size : length (stampOf f) ≡ stampSize = stamp-length (readingOf h) (reached h .object) (reached h .holds) in
-    let g : given r ≡ stampAnswer (now h .session) (length before) = e ∙ ap (λ (x : Session). stampAnswer x (length before)) es in
+    let g : given r ≡ stampAnswer (finish h .session) (length before) = e ∙ ap (λ (x : Session). stampAnswer x (length before)) es in
     let bytes : left ≡ stampFor (readingOf h) before = b ∙ ap (λ (x : Session). stampBuffer x before) es ∙ p .stamp-bytes before in
     let written : stampSize ≤ length before → left ≡ front (stampOf f) before = λ room. bytes ∙ ap (λ (t : Bool). cond t (front (stampOf f) before) before) (room-enough (length before) room) in
     record {
@@ -150,7 +150,7 @@ stamp-kept s before left r e b h es =
       bytes = bytes;
       granted = λ room. second f (ap (λ (l : List ℕ). getD l 1 0) (written room) ∙ front-at (stampOf f) before 1 (omega (arith, size)) ∙ stamp-second f) (p .granted);
       apart = λ room u. first f (finding (readingOf u)) (ap (take stampSize) (written room) ∙ front-take stampSize (stampOf f) before size) (apart h u .stamps);
-      goes-on = goes-on h (Call.stamp before) (r .session) (now h .object) tt (ap (λ (x : ℕ × Session). record { session = x .1; object = now h .object }) (sym g));
+      goes-on = goes-on h (Call.stamp before) (r .session) (finish h .object) tt (ap (λ (x : ℕ × Session). record { session = x .1; object = finish h .object }) (sym g));
     }
   where
     second : (f : Finding) {n : ℕ} {G : Type 0} → n ≡ standing f → (standing f ≡ 1) ↔ G → (n ≡ 1) ↔ G

@@ -11,7 +11,7 @@ use Rattle.session.specs.Condition.{commandConditions, answerConditions,
 use Rattle.session.specs.Reading.{Told, Reading, begins, nextCommand, commandRefused, answerRefused, verdictRefused, refusedBy, read, refusals}
 use Rattle.session.specs.Ranges.{inRange}
 use Rattle.session.specs.Operation.{opened, commandOf, commandBuffer, fieldOf, stampBuffer}
-use Rattle.session.specs.Promise.{Call, Host, numberOf, numbers, History, start, now, feed, readingOf, stampFor, countFor, Promise, Apart}
+use Rattle.session.specs.Promise.{Call, Host, numberOf, numbers, History, start, finish, feed, readingOf, stampFor, countFor, Promise, Apart}
 use Rattle.session.specs.declared.state.Session.{Session}
 use Rattle.session.proofs.ConditionLaws.{not-named}
 use Rattle.session.proofs.Invariant.{session-of, Invariant, Reaches}
@@ -25,7 +25,7 @@ use Rattle.session.proofs.BeginLaws.{begins-holds}
 use Rattle.session.proofs.RunLaws.{number-is, stamp-number, on-list, numbers-are}
 
 -- the host of a history has come to its reading
-pub reached : (h : History) → Reaches (now h) (readingOf h)
+pub reached : (h : History) → Reaches (finish h) (readingOf h)
 unfolding opened
 reached h = on-list (h .calls) (begins (h .opening)) (h .object) (begins-holds (h .opening) (h .object) (h .good)) (h .lent)
 
@@ -69,7 +69,7 @@ promise h =
     let r = readingOf h in
     let m = a .object in
     let i = a .holds in
-    let s : now h .session ≡ session-of r = ap (λ (x : Host). x .session) (a .same) in
+    let s : finish h .session ≡ session-of r = ap (λ (x : Host). x .session) (a .same) in
     record {
       stamp-number = λ out. ap (λ (x : Host). numberOf x (Call.stamp out)) (a .same) ∙ number-is r m (Call.stamp out) i;
       stamp-bytes = λ out. ap (λ (x : Session). stampBuffer x out) s ∙ stamp-leaves r m out i;

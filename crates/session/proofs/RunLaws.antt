@@ -14,7 +14,7 @@ use Rattle.session.specs.Reading.{Told, Reading, commandRefused, answerR
 use Rattle.session.specs.Operation.{commandOf, takenSession, takenBuffer, answerOf, answerBuffer, verdictRefusal, verdictOf, stampRefusal, stampAnswer}
 use Rattle.session.specs.Promise.{Call, told, Host, numberOf, after, run, numbers, LentNow, Lent}
 use Rattle.session.specs.declared.state.Session.{Session}
-use Rattle.session.proofs.Invariant.{session-of, host-of, Invariant, Reaches, stays}
+use Rattle.session.proofs.Invariant.{session-of, host-of, Invariant, Reaches, stays, Leads}
 use Rattle.session.proofs.InRangeLaws.{in-range}
 use Rattle.session.proofs.CommandLaws.{command-gives, on-command}
 use Rattle.session.proofs.AnswerLaws.{takes-answer, answer-number, answer-accepts}
@@ -65,18 +65,18 @@ number-is r m (Call.stamp out) i = stamp-number r m (length out) i
 
 -- ---- where a call leads
 
-command-leads : (n k : ℕ) (x y : Session) (m : List ℕ) (r₁ r₂ : Reading) (b : Bool) → (b ≡ true → Reaches (record { session = x; object = m }) r₁) → Reaches (record { session = y; object = m }) r₂
-    → Reaches (record { session = (cond {A = ℕ × ℕ × Session} b (0, n, x) (k, 0, y)) .2; object = m }) (cond b r₁ r₂)
+command-leads : (n k : ℕ) (x y : Session) (m : List ℕ) (r₁ r₂ : Reading) (b : Bool) → (b ≡ true → Leads x m r₁) → Leads y m r₂
+    → Leads ((cond {A = ℕ × ℕ × Session} b (0, n, x) (k, 0, y)) .2) m (cond b r₁ r₂)
 command-leads n k x y m r₁ r₂ true f g = f refl
 command-leads n k x y m r₁ r₂ false f g = g
 
-answer-leads : (k : ℕ) (x y : Session) (m₁ m₂ m : List ℕ) (r₁ r₂ : Reading) (b : Bool) → (b ≡ true → Reaches (record { session = x; object = m₁ }) r₁) → Reaches (record { session = y; object = m }) r₂
-    → Reaches (record { session = (cond {A = ℕ × Session} b (0, x) (k, y)) .1; object = cond b (cond b m₁ m₂) m }) (cond b r₁ r₂)
+answer-leads : (k : ℕ) (x y : Session) (m₁ m₂ m : List ℕ) (r₁ r₂ : Reading) (b : Bool) → (b ≡ true → Leads x m₁ r₁) → Leads y m r₂
+    → Leads ((cond {A = ℕ × Session} b (0, x) (k, y)) .1) (cond b (cond b m₁ m₂) m) (cond b r₁ r₂)
 answer-leads k x y m₁ m₂ m r₁ r₂ true f g = f refl
 answer-leads k x y m₁ m₂ m r₁ r₂ false f g = g
 
-verdict-leads : (k : ℕ) (x y : Session) (m : List ℕ) (r₁ r₂ : Reading) (b : Bool) → (b ≡ true → Reaches (record { session = x; object = m }) r₁) → Reaches (record { session = y; object = m }) r₂
-    → Reaches (record { session = (cond {A = ℕ × Session} b (0, x) (k, y)) .1; object = m }) (cond b r₁ r₂)
+verdict-leads : (k : ℕ) (x y : Session) (m : List ℕ) (r₁ r₂ : Reading) (b : Bool) → (b ≡ true → Leads x m r₁) → Leads y m r₂
+    → Leads ((cond {A = ℕ × Session} b (0, x) (k, y)) .1) m (cond b r₁ r₂)
 verdict-leads k x y m r₁ r₂ true f g = f refl
 verdict-leads k x y m r₁ r₂ false f g = g
 
@@ -95,7 +95,7 @@ on-call r m (Call.answer object bytes cancelled) i l =
     (answer-leads _ _ _ _ _ m _ _ (eqb k 0) (λ e. own (eqb-true k 0 e)) (stays r m i))
   where
     own : answerRefused r (length object) (length bytes) ≡ 0
-        → Reaches (record { session = takenSession (session-of r) object (dataOf bytes) (statusBytes bytes) cancelled; object = takenBuffer (session-of r) object (dataOf bytes) (statusBytes bytes) }) (answered r (dataOf bytes) (statusBytes bytes) cancelled)
+        → Leads (takenSession (session-of r) object (dataOf bytes) (statusBytes bytes) cancelled) (takenBuffer (session-of r) object (dataOf bytes) (statusBytes bytes)) (answered r (dataOf bytes) (statusBytes bytes) cancelled)
     own e =
         let a = answer-accepts r m (length object) (length bytes) i e in
         let o : object ≡ m = l .0 (answer-refused r m object bytes cancelled i ∙ e) in

@@ -34,7 +34,17 @@ expiryFound mode (Option.some f) = Option.some (expiryIn mode (f .joined))
 
 unfoldable pub finding : Reading → Finding
 finding r =
-    record { mode = r .opening .mode; date = r .opening .date; step = r .course .step; cause = causeOf (r .course .cause) (r .outcomes); sw1 = r .course .sw1; sw2 = r .course .sw2; outcomes = r .outcomes; digits = digitsFound (r .opening .mode) (r .found .first); expiry = expiryFound (r .opening .mode) (r .found .first) }
+    record {
+      mode = r .opening .mode;
+      date = r .opening .date;
+      step = r .course .step;
+      cause = causeOf (r .course .cause) (r .outcomes);
+      sw1 = r .course .sw1;
+      sw2 = r .course .sw2;
+      outcomes = r .outcomes;
+      digits = digitsFound (r .opening .mode) (r .found .first);
+      expiry = expiryFound (r .opening .mode) (r .found .first);
+    }
 
 -- 0 open, 1 granted, 2 rejected.
 abbrev pub standing : Finding → ℕ

@@ -12,7 +12,7 @@ use Rattle.card.specs.Command.{statusOf}
 use Rattle.card.specs.declared.object.Part.{Part}
 use Rattle.card.specs.declared.command.Status.{Status}
 use Rattle.card.specs.declared.command.Status.the-variants.{Done, More, Other}
-use Rattle.session.specs.Tables.{checks, checkOf, withOutcome, neededOutcomes, verdictOutcome, causeOf, standingOf, kindAt, stepAfter, baseOf, capacity, stepOfTag, commandBytes, isResponse, dataOf, statusBytes, ruleCause, fascnIn, expiryIn, judgedOutcomes, joinedCause, headOf, layout}
+use Rattle.session.specs.Tables.{checks, checkOf, withOutcome, neededOutcomes, verdictOutcome, causeOf, standingOf, kindAt, stepAfter, baseOf, capacity, stepOfTag, commandBytes, isResponse, dataOf, statusBytes, ruleCause, statusShown, fascnIn, expiryIn, judgedOutcomes, joinedCause, headOf, layout}
 use Rattle.session.specs.Condition.{openConditions, commandConditions, answerConditions, verdictConditions, fieldConditions, stampConditions}
 use Rattle.session.specs.Ranges.{outOfRange}
 use Rattle.session.specs.declared.state.Setting.{Setting}
@@ -76,7 +76,12 @@ dead =
 -- The session that an accepted opening gives; the AID is kept with zeros after it.
 unfoldable pub opened : ℕ → ℕ → List ℕ → Session
 opened mode date aid =
-    record { setting = record { mode = mode; date = date; aid = front aid (replicate 16 0); «aid_len» = length aid }; progress = begun 0; outcomes = neededOutcomes mode; card = noCard }
+    record {
+      setting = record { mode = mode; date = date; aid = front aid (replicate 16 0); «aid_len» = length aid };
+      progress = begun 0;
+      outcomes = neededOutcomes mode;
+      card = noCard;
+    }
 
 unfoldable pub openRefusal : ℕ → ℕ → List ℕ → ℕ
 openRefusal mode date aid = refusalOf (openConditions mode date aid)
@@ -122,21 +127,35 @@ abbrev pub more : Progress → ℕ → ℕ → Progress
 more p n second =
     record { step = p .step; filled = p .filled + n; outstanding = false; next = GetResponse second; cause = 0; sw1 = 0; sw2 = 0 }
 
--- Step 2's good end: where the fields of its object lie.
+-- Step 1's good end sets checks 3 and 4; FASC-N, expiry and the places of the fields are kept.
+abbrev pub firstRead : Session → List ℕ → List ℕ → Session
+firstRead s joined cancelled =
+    let mode = s .setting .mode in
+    record {
+      setting = s .setting;
+      progress = begun (stepAfter mode 1);
+      outcomes = judgedOutcomes mode (s .setting .date) (s .outcomes) joined cancelled;
+      card = record { fascn = fascnIn mode joined; expiry = expiryIn mode joined; first = objectOf (kindAt mode 1) joined .1; second = s .card .second };
+    }
+
+-- Step 2's good end: the places of the fields are kept.
 abbrev pub secondRead : Session → List Part → Session
 secondRead s parts =
-    record { setting = s .setting; progress = begun 3; outcomes = s .outcomes; card = record { fascn = s .card .fascn; expiry = s .card .expiry; first = s .card .first; second = parts } }
+    record {
+      setting = s .setting;
+      progress = begun 3;
+      outcomes = s .outcomes;
+      card = record { fascn = s .card .fascn; expiry = s .card .expiry; first = s .card .first; second = parts };
+    }
 
 -- The good end of a step, by its joined data.
 unfoldable pub nextStep : Session → List ℕ → List ℕ → Session
 nextStep s joined cancelled =
     let mode = s .setting .mode in
-    cond (eqb (s .progress .step) 0)
-    (withProgress s (begun (stepAfter mode 0)))
-    (cond (eqb (s .progress .step) 1)
-    (record { setting = s .setting; progress = begun (stepAfter mode 1); outcomes = judgedOutcomes mode (s .setting .date) (s .outcomes) joined cancelled; card = record { fascn = fascnIn mode joined; expiry = expiryIn mode joined; first = objectOf (kindAt mode 1) joined .1; second = s .card .second } })
-    (secondRead s (objectOf (kindAt mode (s .progress .step)) joined .1)))
+    cond (eqb (s .progress .step) 0) (withProgress s (begun (stepAfter mode 0)))
+    (cond (eqb (s .progress .step) 1) (firstRead s joined cancelled) (secondRead s (objectOf (kindAt mode (s .progress .step)) joined .1)))
 
+-- The step's joined data is judged.
 unfoldable pub judgedSession : Session → List ℕ → List ℕ → Session
 judgedSession s joined cancelled =
     let k = joinedCause (s .setting .mode) (s .progress .step) joined in
@@ -147,7 +166,7 @@ abbrev pub causeBy : Session → Status → ℕ → ℕ
 causeBy s status n =
     ruleCause status (isResponse (s .progress .next)) n (s .progress .filled) (capacity (s .setting .mode) (s .progress .step))
 
--- The object buffer once data is appended, and the step's joined data in it, of which n bytes are new.
+-- Where the data of the next answer is stored in the object buffer, and the step's joined data once n bytes are.
 abbrev pub placeOf : Progress → ℕ
 placeOf p = baseOf (p .step) + p .filled
 
@@ -166,7 +185,7 @@ takenSession s object bytes status cancelled =
     let k = causeBy s (statusOf status) (length bytes) in
     cond (eqb k 0)
     (appendedSession (statusOf status) s (joinedIn (s .progress) (stored object (placeOf (s .progress)) bytes) (length bytes)) (length bytes) cancelled)
-    (withProgress s (ended (s .progress) k (cond (eqb k 16) (getD status 0 0) 0) (cond (eqb k 16) (getD status 1 0) 0)))
+    (withProgress s (ended (s .progress) k (statusShown k (getD status 0 0)) (statusShown k (getD status 1 0))))
 
 unfoldable pub takenBuffer : Session → List ℕ → List ℕ → List ℕ → List ℕ
 takenBuffer s object bytes status =
@@ -190,7 +209,12 @@ verdictRefusal s kind says fascn =
 
 unfoldable pub heardSession : Session → ℕ → ℕ → List ℕ → Session
 heardSession s kind says fascn =
-    record { setting = s .setting; progress = s .progress; outcomes = withOutcome (s .outcomes) (checkOf kind) (verdictOutcome (s .card .fascn) says fascn); card = s .card }
+    record {
+      setting = s .setting;
+      progress = s .progress;
+      outcomes = withOutcome (s .outcomes) (checkOf kind) (verdictOutcome (s .card .fascn) says fascn);
+      card = s .card;
+    }
 
 unfoldable pub verdictOf : Session → ℕ → ℕ → List ℕ → ℕ × Session
 verdictOf s kind says fascn =
@@ -220,10 +244,6 @@ fieldOf s object tag =
 
 unfoldable pub stampRefusal : Session → ℕ → ℕ
 stampRefusal s room = refusalOf ((4, outOfRange s) ∷ stampConditions room)
-
--- A byte of the status word: 00 unless the cause is 16.
-abbrev pub statusShown : ℕ → ℕ → ℕ
-statusShown cause sw = cond (eqb cause 16) sw 0
 
 -- Mode, standing, cause, status word and step.
 unfoldable pub stampHead : Session → List ℕ

@@ -55,7 +55,10 @@ numberOf h (Call.stamp out) = stampAnswer (h .session) (length out) .0
 abbrev pub after : Host → Call → Host
 after h (Call.command out) = record { session = commandOf (h .session) (length out) .2; object = h .object }
 after h (Call.answer object bytes cancelled) =
-    record { session = answerOf (h .session) object bytes cancelled .1; object = cond (eqb (answerRefusal (h .session) (length object) (length bytes)) 0) (answerBuffer (h .session) object bytes) (h .object) }
+    record {
+      session = answerOf (h .session) object bytes cancelled .1;
+      object = cond (eqb (answerRefusal (h .session) (length object) (length bytes)) 0) (answerBuffer (h .session) object bytes) (h .object);
+    }
 after h (Call.verdict kind says fascn) = record { session = verdictOf (h .session) kind says fascn .1; object = h .object }
 after h (Call.field object tag) = h
 after h (Call.stamp out) = record { session = stampAnswer (h .session) (length out) .1; object = h .object }
@@ -103,8 +106,8 @@ pub record History : Type 0 where
 abbrev pub start : History → Host
 start h = host (h .opening) (h .object)
 
-abbrev pub now : History → Host
-now h = run (start h) (h .calls)
+abbrev pub finish : History → Host
+finish h = run (start h) (h .calls)
 
 abbrev pub feed : History → List Told
 feed h = map told (h .calls)
@@ -126,18 +129,18 @@ commandFor r out = cond (eqb (refusedBy r (Told.command (length out))) 0) (front
 
 pub record Promise (h : History) : Type 0 where
   -- a: a stamp call made next is refused by the reading's number, or writes the 45 bytes of the finding and leaves the rest
-  pub stamp-number : (out : List ℕ) → numberOf (now h) (Call.stamp out) ≡ refusedBy (readingOf h) (Told.stamp (length out))
-  pub stamp-bytes : (out : List ℕ) → stampBuffer (now h .session) out ≡ stampFor (readingOf h) out
+  pub stamp-number : (out : List ℕ) → numberOf (finish h) (Call.stamp out) ≡ refusedBy (readingOf h) (Told.stamp (length out))
+  pub stamp-bytes : (out : List ℕ) → stampBuffer (finish h .session) out ≡ stampFor (readingOf h) out
   -- b: a command call made next is refused by the reading's number, or writes the reading's next command and gives its count
-  pub command-number : (out : List ℕ) → numberOf (now h) (Call.command out) ≡ refusedBy (readingOf h) (Told.command (length out))
-  pub command-count : (out : List ℕ) → commandOf (now h .session) (length out) .1 ≡ countFor (readingOf h) (length out)
-  pub command-bytes : (out : List ℕ) → commandBuffer (now h .session) out ≡ commandFor (readingOf h) out
+  pub command-number : (out : List ℕ) → numberOf (finish h) (Call.command out) ≡ refusedBy (readingOf h) (Told.command (length out))
+  pub command-count : (out : List ℕ) → commandOf (finish h .session) (length out) .1 ≡ countFor (readingOf h) (length out)
+  pub command-bytes : (out : List ℕ) → commandBuffer (finish h .session) out ≡ commandFor (readingOf h) out
   -- c: a field call made next, lent the host's buffer, gives the field's value in its step's joined data
-  pub field-value : (tag : ℕ) → fieldOf (now h .session) (now h .object) tag ≡ fieldIn (readingOf h) tag
+  pub field-value : (tag : ℕ) → fieldOf (finish h .session) (finish h .object) tag ≡ fieldIn (readingOf h) tag
   -- d: each call of the list was refused where the reading says so, by that number; refusal 4 fits none
   pub refused : numbers (start h) (h .calls) ≡ refusals (begins (h .opening)) (feed h)
   pub never-four : (i : ℕ) → getD (numbers (start h) (h .calls)) i 0 ≡ 4 → ⊥
-  pub in-range : inRange (now h .session) ≡ true
+  pub in-range : inRange (finish h .session) ≡ true
   -- f: granted, said of the calls
   pub granted : (standing (finding (readingOf h)) ≡ 1) ↔ Granted (readingOf h)
   -- g: at most 4,098 answers are taken in a step, and 12,294 in all
@@ -156,7 +159,7 @@ pub record GoesOn (h : History) (c : Call) (session : Session) (object : List �
   pub opening : history .opening ≡ h .opening
   pub first : history .object ≡ h .object
   pub calls : history .calls ≡ h .calls ++ (c ∷ [])
-  pub host : now history ≡ record { session = session; object = object }
+  pub host : finish history ≡ record { session = session; object = object }
 
 -- An opening that is accepted begins a history, with any object buffer.
 pub record BeginsWith (o : Opening) (session : Session) (object : List ℕ) : Type 0 where
@@ -164,7 +167,7 @@ pub record BeginsWith (o : Opening) (session : Session) (object : List ℕ) : Ty
   pub opening : history .opening ≡ o
   pub first : history .object ≡ object
   pub calls : history .calls ≡ []
-  pub host : now history ≡ record { session = session; object = object }
+  pub host : finish history ≡ record { session = session; object = object }
 
 abbrev pub OpenKept : ℕ → ℕ → List ℕ → Answered → Type 0
 OpenKept mode date aid r =
@@ -174,10 +177,10 @@ pub record CommandSays (h : History) (before left : List ℕ) (r : Commanded) : 
   pub number : replyNumber (r .reply) ≡ refusedBy (readingOf h) (Told.command (length before))
   pub count : r .count ≡ countFor (readingOf h) (length before)
   pub bytes : left ≡ commandFor (readingOf h) before
-  pub goes-on : GoesOn h (Call.command before) (r .session) (now h .object)
+  pub goes-on : GoesOn h (Call.command before) (r .session) (finish h .object)
 
 abbrev pub CommandKept : Session → List ℕ → List ℕ → Commanded → Type 0
-CommandKept s before left r = (h : History) → s ≡ now h .session → CommandSays h before left r
+CommandKept s before left r = (h : History) → s ≡ finish h .session → CommandSays h before left r
 
 pub record AnswerSays (h : History) (object bytes cancelled left : List ℕ) (r : Answered) : Type 0 where
   pub number : replyNumber (r .reply) ≡ refusedBy (readingOf h) (Told.answer (length object) bytes cancelled)
@@ -185,17 +188,17 @@ pub record AnswerSays (h : History) (object bytes cancelled left : List ℕ) (r 
 
 abbrev pub AnswerKept : Session → List ℕ → List ℕ → List ℕ → List ℕ → Answered → Type 0
 AnswerKept s object bytes cancelled left r =
-    (h : History) → s ≡ now h .session → object ≡ now h .object → AnswerSays h object bytes cancelled left r
+    (h : History) → s ≡ finish h .session → object ≡ finish h .object → AnswerSays h object bytes cancelled left r
 
 pub record VerdictSays (h : History) (kind says : ℕ) (fascn : List ℕ) (r : Answered) : Type 0 where
   pub number : replyNumber (r .reply) ≡ refusedBy (readingOf h) (Told.verdict kind says fascn)
-  pub goes-on : GoesOn h (Call.verdict kind says fascn) (r .session) (now h .object)
+  pub goes-on : GoesOn h (Call.verdict kind says fascn) (r .session) (finish h .object)
 
 abbrev pub VerdictKept : Session → ℕ → ℕ → List ℕ → Answered → Type 0
-VerdictKept s kind says fascn r = (h : History) → s ≡ now h .session → VerdictSays h kind says fascn r
+VerdictKept s kind says fascn r = (h : History) → s ≡ finish h .session → VerdictSays h kind says fascn r
 
 abbrev pub FieldKept : Session → List ℕ → ℕ → List ℕ → Type 0
-FieldKept s object tag value = (h : History) → s ≡ now h .session → object ≡ now h .object → value ≡ fieldIn (readingOf h) tag
+FieldKept s object tag value = (h : History) → s ≡ finish h .session → object ≡ finish h .object → value ≡ fieldIn (readingOf h) tag
 
 -- Where it is not refused, the second byte says granted exactly where the calls do, and the 45 bytes are the stamp of any other history exactly where the two
 -- findings are the same.
@@ -204,7 +207,7 @@ pub record StampSays (h : History) (before left : List ℕ) (r : Answered) : Typ
   pub bytes : left ≡ stampFor (readingOf h) before
   pub granted : stampSize ≤ length before → (getD left 1 0 ≡ 1) ↔ Granted (readingOf h)
   pub apart : stampSize ≤ length before → (u : History) → (take stampSize left ≡ stampOf (finding (readingOf u))) ↔ (finding (readingOf h) ≡ finding (readingOf u))
-  pub goes-on : GoesOn h (Call.stamp before) (r .session) (now h .object)
+  pub goes-on : GoesOn h (Call.stamp before) (r .session) (finish h .object)
 
 abbrev pub StampKept : Session → List ℕ → List ℕ → Answered → Type 0
-StampKept s before left r = (h : History) → s ≡ now h .session → StampSays h before left r
+StampKept s before left r = (h : History) → s ≡ finish h .session → StampSays h before left r

@@ -12,7 +12,7 @@ use Rattle.card.specs.Object.{fieldValue}
 use Rattle.card.specs.Command.{statusOf}
 use Rattle.card.specs.declared.command.Status.{Status}
 use Rattle.card.specs.declared.command.Status.the-variants.{Done, More, Other}
-use Rattle.session.specs.Tables.{checkOf, neededOutcomes, withOutcome, verdictOutcome, judgedOutcomes, kindAt, stepAfter, capacity, stepOfTag, commandBytes, isResponse, dataOf, statusBytes, ruleCause, fascnIn, joinedCause}
+use Rattle.session.specs.Tables.{checkOf, neededOutcomes, withOutcome, verdictOutcome, judgedOutcomes, kindAt, stepAfter, capacity, stepOfTag, commandBytes, isResponse, dataOf, statusBytes, ruleCause, statusShown, fascnIn, joinedCause}
 use Rattle.session.specs.Condition.{commandConditions, answerConditions, verdictConditions, fieldConditions, stampConditions}
 use Rattle.session.specs.declared.state.Next.{Next}
 use Rattle.session.specs.declared.state.Next.the-variants.{Initial, GetResponse}
@@ -111,15 +111,32 @@ abbrev pub continued : Course → List ℕ → ℕ → Course
 continued c joined second =
     record { step = c .step; cause = 0; sw1 = 0; sw2 = 0; joined = joined; outstanding = false; next = GetResponse second }
 
+-- Step 1's good end sets checks 3 and 4; what was read is kept, with the list.
+abbrev pub firstEnd : Reading → List ℕ → List ℕ → Reading
+firstEnd r joined cancelled =
+    let mode = r .opening .mode in
+    record {
+      opening = r .opening;
+      course = atStep (stepAfter mode 1);
+      outcomes = judgedOutcomes mode (r .opening .date) (r .outcomes) joined cancelled;
+      found = record { first = Option.some (record { joined = joined; cancelled = cancelled }); second = r .found .second; verdicts = r .found .verdicts };
+    }
+
+-- Step 2's good end: what was read is kept.
+abbrev pub secondEnd : Reading → List ℕ → Reading
+secondEnd r joined =
+    record {
+      opening = r .opening;
+      course = atStep (stepAfter (r .opening .mode) 2);
+      outcomes = r .outcomes;
+      found = record { first = r .found .first; second = Option.some joined; verdicts = r .found .verdicts };
+    }
+
 -- The good end of a step: the next step begins.
 unfoldable pub goodEnd : Reading → List ℕ → List ℕ → Reading
 goodEnd r joined cancelled =
-    let mode = r .opening .mode in
-    cond (eqb (r .course .step) 0)
-    (withCourse r (atStep (stepAfter mode 0)))
-    (cond (eqb (r .course .step) 1)
-    (record { opening = r .opening; course = atStep (stepAfter mode 1); outcomes = judgedOutcomes mode (r .opening .date) (r .outcomes) joined cancelled; found = record { first = Option.some (record { joined = joined; cancelled = cancelled }); second = r .found .second; verdicts = r .found .verdicts } })
-    (record { opening = r .opening; course = atStep (stepAfter mode 2); outcomes = r .outcomes; found = record { first = r .found .first; second = Option.some joined; verdicts = r .found .verdicts } }))
+    cond (eqb (r .course .step) 0) (withCourse r (atStep (stepAfter (r .opening .mode) 0)))
+    (cond (eqb (r .course .step) 1) (firstEnd r joined cancelled) (secondEnd r joined))
 
 -- The step's joined data is judged.
 unfoldable pub judged : Reading → List ℕ → List ℕ → Reading
@@ -127,12 +144,14 @@ judged r joined cancelled =
     let k = joinedCause (r .opening .mode) (r .course .step) joined in
     cond (eqb k 0) (goodEnd r joined cancelled) (withCourse r (stopped (r .course) k 0 0))
 
--- Rule 4: "the data is appended. After 61 GET RESPONSE is next. After 90 00 the step's joined data is judged".
+-- Rule 4: "the data is appended. After 61 GET RESPONSE is next. After 90 00 the step's joined data is judged". Any other status word gave cause 16 by rule 1, and
+-- does not come here.
 abbrev pub appended : Status → Reading → List ℕ → List ℕ → Reading
 appended (More second) r joined cancelled = withCourse r (continued (r .course) joined second)
 appended Done r joined cancelled = judged r joined cancelled
 appended Other r joined cancelled = judged r joined cancelled
 
+-- Rules 1 to 3 on the step's joined data.
 abbrev pub causeBy : Course → ℕ → Status → List ℕ → ℕ
 causeBy c most status bytes = ruleCause status (isResponse (c .next)) (length bytes) (length (c .joined)) most
 
@@ -141,7 +160,7 @@ unfoldable pub answered : Reading → List ℕ → List ℕ → List ℕ → Rea
 answered r bytes status cancelled =
     let k = causeBy (r .course) (capacity (r .opening .mode) (r .course .step)) (statusOf status) bytes in
     cond (eqb k 0) (appended (statusOf status) r (r .course .joined ++ bytes) cancelled)
-    (withCourse r (stopped (r .course) k (cond (eqb k 16) (getD status 0 0) 0) (cond (eqb k 16) (getD status 1 0) 0)))
+    (withCourse r (stopped (r .course) k (statusShown k (getD status 0 0)) (statusShown k (getD status 1 0))))
 
 -- ---- a verdict call: "sets its check's outcome"
 
@@ -156,7 +175,12 @@ verdictRefused r kind says fascn =
 
 abbrev pub heard : Reading → ℕ → ℕ → List ℕ → Reading
 heard r kind says fascn =
-    record { opening = r .opening; course = r .course; outcomes = withOutcome (r .outcomes) (checkOf kind) (verdictOutcome (ownFascn (r .opening .mode) (r .found .first)) says fascn); found = record { first = r .found .first; second = r .found .second; verdicts = record { kind = kind; says = says; fascn = fascn } ∷ r .found .verdicts } }
+    record {
+      opening = r .opening;
+      course = r .course;
+      outcomes = withOutcome (r .outcomes) (checkOf kind) (verdictOutcome (ownFascn (r .opening .mode) (r .found .first)) says fascn);
+      found = record { first = r .found .first; second = r .found .second; verdicts = record { kind = kind; says = says; fascn = fascn } ∷ r .found .verdicts };
+    }
 
 -- ---- every call
 

@@ -181,6 +181,10 @@ unfoldable pub ruleCause : Status → Bool → ℕ → ℕ → ℕ → ℕ
 ruleCause status response n total most =
     refusalOf ((16, isOther status) ∷ (17, (isMore status && eqb n 0) && response) ∷ (18, ltb most (total + n)) ∷ [])
 
+-- A byte of the status word that is kept and stamped: "00 00 unless cause 16".
+abbrev pub statusShown : ℕ → ℕ → ℕ
+statusShown cause sw = cond (eqb cause 16) sw 0
+
 -- The FASC-N, its digits and key, and the expiry in the joined data of step 1.
 abbrev pub fascnIn : ℕ → List ℕ → List ℕ
 fascnIn mode joined = fieldValue (kindAt mode 1) 0x30 joined

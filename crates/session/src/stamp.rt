@@ -8,8 +8,8 @@ ghost use mathlib.Core.Path.{_≡_};
 ghost use Prim.Native.Nat.{_≤_};
 ghost use lib.ListN.{length};
 ghost use Rattle.card.specs.Range.{front};
-ghost use Rattle.session.specs.Tables.{fourBytes, stampSize};
-ghost use Rattle.session.specs.Operation.{replyNumber, given, statusShown, stampRefusal, stampHead, stampIn, stampAnswer, stampBuffer};
+ghost use Rattle.session.specs.Tables.{statusShown, fourBytes, stampSize};
+ghost use Rattle.session.specs.Operation.{replyNumber, given, stampRefusal, stampHead, stampIn, stampAnswer, stampBuffer};
 ghost use Rattle.session.specs.Promise.{StampKept};
 
 // A number of four bytes, high byte first.
