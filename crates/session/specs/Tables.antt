@@ -26,6 +26,7 @@ use Rattle.session.specs.declared.state.Next.the-variants.{Initial, GetR
 abbrev pub checks : ℕ
 checks = 6
 
+-- Modes 1 to 4 are built.
 abbrev pub goodMode : ℕ → Bool
 goodMode mode = leb 1 mode && leb mode 4
 
@@ -36,6 +37,7 @@ checksOf mode =
     (cond (eqb mode 2) (3 ∷ 4 ∷ 5 ∷ [])
     (cond (eqb mode 3) (1 ∷ 2 ∷ 3 ∷ 4 ∷ 6 ∷ []) (1 ∷ 2 ∷ 3 ∷ 4 ∷ 5 ∷ 6 ∷ [])))
 
+-- A number is one of a list.
 abbrev pub isIn : ℕ → List ℕ → Bool
 isIn x [] = false
 isIn x (y ∷ ys) = eqb x y || isIn x ys
@@ -69,6 +71,7 @@ failed = 3
 abbrev pub otherCard : ℕ
 otherCard = 4
 
+-- The outcome of a check, and the outcomes with that of a check set.
 abbrev pub outcomeOf : List ℕ → ℕ → ℕ
 outcomeOf o check = getD o (check - 1) 0
 
@@ -140,6 +143,7 @@ objectSize = 8192
 abbrev pub baseOf : ℕ → ℕ
 baseOf step = cond (eqb step 2) 4096 0
 
+-- The most that a step may hold, by mode and step.
 abbrev pub capacity : ℕ → ℕ → ℕ
 capacity mode step = 4096
 
@@ -154,6 +158,7 @@ unfoldable pub commandBytes : ℕ → List ℕ → ℕ → Next → List ℕ
 commandBytes mode aid step Initial = cond (eqb step 0) (selectBytes aid) (getDataBytes (kindAt mode step))
 commandBytes mode aid step (GetResponse second) = getResponseBytes second
 
+-- The command is GET RESPONSE.
 abbrev pub isResponse : Next → Bool
 isResponse Initial = false
 isResponse (GetResponse second) = true
@@ -165,6 +170,7 @@ dataOf answer = take (length answer - 2) answer
 abbrev pub statusBytes : List ℕ → List ℕ
 statusBytes answer = drop (length answer - 2) answer
 
+-- "Status neither 90 00 nor 61 with any second byte"; 61 with any second byte.
 abbrev pub isOther : Status → Bool
 isOther Other = true
 isOther (More second) = false
