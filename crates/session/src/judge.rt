@@ -8,6 +8,7 @@ use crate::tables;
 use card::date;
 use card::date::Date;
 use card::fascn;
+use card::fascn::Key;
 use card::object;
 use card::object::FIELDS;
 use card::object::Kind;
@@ -39,18 +40,19 @@ fn expiry_outcome(date: u32, expiry: u32) -> u8
 }
 
 // Whether the key stands anywhere in the list. Every place is looked at: there is no early exit.
-fn listed(key: u64, cancelled: &[u64]) -> bool
-    ensures { λ r. ⌜ r ≡ listed key (now (cancelled .entry)) ⌝ }
+fn listed(key: Key, cancelled: &[u64]) -> bool
+    ensures { λ r. ⌜ r ≡ listed (key .0) (now (cancelled .entry)) ⌝ }
 {
+    let wanted = key.0;
     let mut absent = true;
     for i in 0..cancelled.len() {
-        absent = absent & (cancelled[i] != key);
+        absent = absent & (cancelled[i] != wanted);
     }
     !absent
 }
 
-fn list_outcome(key: u64, cancelled: &[u64]) -> u8
-    ensures { λ r. ⌜ r ≡ listOutcome key (now (cancelled .entry)) ⌝ }
+fn list_outcome(key: Key, cancelled: &[u64]) -> u8
+    ensures { λ r. ⌜ r ≡ listOutcome (key .0) (now (cancelled .entry)) ⌝ }
 {
     if listed(key, cancelled) { 3 } else { 2 }
 }
@@ -71,10 +73,10 @@ fn judged_outcomes(
     o: [u8; CHECKS],
     date: u32,
     expiry: u32,
-    key: u64,
+    key: Key,
     cancelled: &[u64],
 ) -> [u8; CHECKS]
-    ensures { λ r. ⌜ r ≡ withOutcome (withOutcome o 3 (expiryOutcome date expiry)) 4 (listOutcome key (now (cancelled .entry))) ⌝ }
+    ensures { λ r. ⌜ r ≡ withOutcome (withOutcome o 3 (expiryOutcome date expiry)) 4 (listOutcome (key .0) (now (cancelled .entry))) ⌝ }
 {
     let in_time = expiry_outcome(date, expiry);
     let clear = list_outcome(key, cancelled);
@@ -120,7 +122,7 @@ impl Session {
         let digits = unpacked.digits;
         let key = fascn::key_of(digits);
         let before = self.outcomes;
-        let outcomes = judged_outcomes(before, setting.date, expiry, key.0, cancelled);
+        let outcomes = judged_outcomes(before, setting.date, expiry, key, cancelled);
         let fascn = store::array_25(bytes);
         let progress = open::begin(tables::step_after(setting.mode, 1));
         let second = self.card.second;

@@ -13,10 +13,10 @@ use Rattle.session.proofs.judge.listed.Statement.{statement}
 use Rattle.session.proofs.judge.listed.Tie as tie
 
 abbrev Inv-loop : tie.InvT-loop
-Inv-loop key cancelled absent₀ i₀ i-end absent i = (i ≤ length cancelled) × (i-end ≡ length cancelled) × (absent ≡ all i (λ j. not (eqb (getD cancelled j 0) key)))
+Inv-loop cancelled wanted absent₀ i₀ i-end absent i = (i ≤ length cancelled) × (i-end ≡ length cancelled) × (absent ≡ all i (λ j. not (eqb (getD cancelled j 0) wanted)))
 
 abbrev μ-loop : tie.MeasureT-loop
-μ-loop key cancelled absent₀ i₀ i-end absent i = length cancelled - i
+μ-loop cancelled wanted absent₀ i₀ i-end absent i = length cancelled - i
 
 loop-holds : tie.Need-loop-holds Inv-loop μ-loop
 unfolding all
@@ -25,7 +25,7 @@ loop-holds c = search needs
 loop-again : tie.Need-loop-again Inv-loop μ-loop
 loop-again c =
     let a = c .before .before .before .args in
-    (search needs, c .before .before .loop .inv .1, all-more (λ j. not (eqb (getD (a .cancelled .now) j 0) (a .key))) (c .before .before .loop .i) (c .before .before .loop .inv .2) refl)
+    (search needs, c .before .before .loop .inv .1, all-more (λ j. not (eqb (getD (a .cancelled .now) j 0) (a .key .0))) (c .before .before .loop .i) (c .before .before .loop .inv .2) refl)
 
 returns : tie.Need-returns Inv-loop μ-loop
 unfolding listed
