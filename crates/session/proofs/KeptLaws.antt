@@ -25,7 +25,7 @@ use Rattle.session.specs.declared.state.Commanded.{Commanded}
 use Rattle.session.proofs.TestLaws.{and-both}
 use Rattle.session.proofs.ConditionLaws.{none-fit}
 use Rattle.session.proofs.StampLaws.{stamp-length, stamp-second}
-use Rattle.session.proofs.RunLaws.{number-is}
+use Rattle.session.proofs.RunLaws.{zero-or, number-is}
 use Rattle.session.proofs.PromiseLaws.{reached, promise, apart}
 
 -- ---- one call more
@@ -92,24 +92,22 @@ command-kept s before left r e b h es =
 
 -- ---- answer
 
--- what a refused answer leaves is what it was lent
-left-same : (b : Bool) (x y : List ℕ) → cond b (cond b x y) y ≡ cond b x y
-left-same true x y = refl
-left-same false x y = refl
-
-left-is : (s : Session) (object bytes : List ℕ) → cond (eqb (answerRefusal s (length object) (length bytes)) 0) (answerBuffer s object bytes) object ≡ answerBuffer s object bytes
-unfolding answerBuffer
-left-is s object bytes = left-same (eqb (answerRefusal s (length object) (length bytes)) 0) _ object
+-- its number is that of its conditions
+answer-number-is : (s : Session) (object bytes cancelled : List ℕ) → answerOf s object bytes cancelled .0 ≡ answerRefusal s (length object) (length bytes)
+unfolding answerOf
+answer-number-is s object bytes cancelled = zero-or (answerRefusal s (length object) (length bytes)) _ _ _ refl
 
 pub answer-kept : (s : Session) (object bytes cancelled left : List ℕ) (r : Answered) → Bytes bytes → given r ≡ answerOf s object bytes cancelled → left ≡ answerBuffer s object bytes
     → AnswerKept s object bytes cancelled left r
 answer-kept s object bytes cancelled left r b e w h es eo =
-    let g : given r ≡ answerOf (finish h .session) object bytes cancelled = e ∙ ap (λ (x : Session). answerOf x object bytes cancelled) es in
-    let buffer : cond (eqb (answerRefusal (finish h .session) (length object) (length bytes)) 0) (answerBuffer (finish h .session) object bytes) (finish h .object) ≡ left =
-    ap₂ (λ (x : Session) (l : List ℕ). cond (eqb (answerRefusal x (length object) (length bytes)) 0) (answerBuffer x object bytes) l) (sym es) (sym eo) ∙ left-is s object bytes ∙ sym w in
+    let t = finish h .session in
+    let g : given r ≡ answerOf t object bytes cancelled = e ∙ ap (λ (x : Session). answerOf x object bytes cancelled) es in
+    let n : replyNumber (r .reply) ≡ answerOf t object bytes cancelled .0 = ap (λ (x : ℕ × Session). x .0) g in
+    let buffer : cond (eqb (answerRefusal t (length object) (length bytes)) 0) (answerBuffer t object bytes) (finish h .object) ≡ cond (eqb (replyNumber (r .reply)) 0) left (finish h .object) =
+    ap₂ (λ (k : ℕ) (l : List ℕ). cond (eqb k 0) l (finish h .object)) (sym (n ∙ answer-number-is t object bytes cancelled)) (ap (λ (x : Session). answerBuffer x object bytes) (sym es) ∙ sym w) in
     record {
-      number = ap (λ (x : ℕ × Session). x .0) g ∙ number-next h (Call.answer object bytes cancelled);
-      goes-on = goes-on h (Call.answer object bytes cancelled) (r .session) left (λ z. eo, b) (ap₂ (λ (x : ℕ × Session) (l : List ℕ). record { session = x .1; object = l }) (sym g) buffer);
+      number = n ∙ number-next h (Call.answer object bytes cancelled);
+      goes-on = goes-on h (Call.answer object bytes cancelled) (r .session) _ (λ z. eo (n ∙ z), b) (ap₂ (λ (x : ℕ × Session) (l : List ℕ). record { session = x .1; object = l }) (sym g) buffer);
     }
 
 -- ---- verdict
@@ -126,7 +124,10 @@ verdict-kept s kind says fascn r e h es =
 
 pub field-kept : (s : Session) (object : List ℕ) (tag : ℕ) (value : List ℕ) → value ≡ fieldOf s object tag → FieldKept s object tag value
 field-kept s object tag value e h es eo =
-    e ∙ ap₂ (λ (x : Session) (l : List ℕ). fieldOf x l tag) es eo ∙ promise h .field-value tag
+    record {
+      value = e ∙ ap₂ (λ (x : Session) (l : List ℕ). fieldOf x l tag) es eo ∙ promise h .field-value tag;
+      goes-on = goes-on h (Call.field object tag) s object (λ z. eo) (ap₂ (λ (x : Session) (l : List ℕ). record { session = x; object = l }) (sym es) (sym eo));
+    }
 
 -- ---- stamp
 

@@ -24,7 +24,7 @@ use Rattle.session.proofs.BytesLaws.{part-bytes}
 
 -- ---- the number of a call
 
-zero-or : {A : Type 0} (k : ℕ) (x y : A) (b : Bool) → eqb k 0 ≡ b → (cond {A = ℕ × A} b (0, x) (k, y)) .0 ≡ k
+pub zero-or : {A : Type 0} (k : ℕ) (x y : A) (b : Bool) → eqb k 0 ≡ b → (cond {A = ℕ × A} b (0, x) (k, y)) .0 ≡ k
 zero-or k x y true e = sym (eqb-true k 0 e)
 zero-or k x y false e = refl
 

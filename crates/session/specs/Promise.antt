@@ -182,13 +182,14 @@ pub record CommandSays (h : History) (before left : List ℕ) (r : Commanded) : 
 abbrev pub CommandKept : Session → List ℕ → List ℕ → Commanded → Type 0
 CommandKept s before left r = (h : History) → s ≡ finish h .session → CommandSays h before left r
 
+-- The host's buffer is then what an accepted answer left in it; one that is refused may have been lent another, and leaves the host's as it was.
 pub record AnswerSays (h : History) (object bytes cancelled left : List ℕ) (r : Answered) : Type 0 where
   pub number : replyNumber (r .reply) ≡ refusedBy (readingOf h) (Told.answer (length object) bytes cancelled)
-  pub goes-on : GoesOn h (Call.answer object bytes cancelled) (r .session) left
+  pub goes-on : GoesOn h (Call.answer object bytes cancelled) (r .session) (cond (eqb (replyNumber (r .reply)) 0) left (finish h .object))
 
 abbrev pub AnswerKept : Session → List ℕ → List ℕ → List ℕ → List ℕ → Answered → Type 0
 AnswerKept s object bytes cancelled left r =
-    (h : History) → s ≡ finish h .session → object ≡ finish h .object → AnswerSays h object bytes cancelled left r
+    (h : History) → s ≡ finish h .session → (replyNumber (r .reply) ≡ 0 → object ≡ finish h .object) → AnswerSays h object bytes cancelled left r
 
 pub record VerdictSays (h : History) (kind says : ℕ) (fascn : List ℕ) (r : Answered) : Type 0 where
   pub number : replyNumber (r .reply) ≡ refusedBy (readingOf h) (Told.verdict kind says fascn)
@@ -197,8 +198,12 @@ pub record VerdictSays (h : History) (kind says : ℕ) (fascn : List ℕ) (r : A
 abbrev pub VerdictKept : Session → ℕ → ℕ → List ℕ → Answered → Type 0
 VerdictKept s kind says fascn r = (h : History) → s ≡ finish h .session → VerdictSays h kind says fascn r
 
+pub record FieldSays (h : History) (s : Session) (object : List ℕ) (tag : ℕ) (given : List ℕ) : Type 0 where
+  pub value : given ≡ fieldIn (readingOf h) tag
+  pub goes-on : GoesOn h (Call.field object tag) s object
+
 abbrev pub FieldKept : Session → List ℕ → ℕ → List ℕ → Type 0
-FieldKept s object tag value = (h : History) → s ≡ finish h .session → object ≡ finish h .object → value ≡ fieldIn (readingOf h) tag
+FieldKept s object tag given = (h : History) → s ≡ finish h .session → object ≡ finish h .object → FieldSays h s object tag given
 
 -- Where it is not refused, the second byte says granted exactly where the calls do, and the 45 bytes are the stamp of any other history exactly where the two
 -- findings are the same.
