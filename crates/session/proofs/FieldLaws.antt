@@ -10,18 +10,16 @@ use lib.Dec.{eqb}
 use lib.ListN.{length, drop, take-append-drop}
 use lib.Seq.{take-nil, drop-nil}
 use Rattle.card.specs.Refusal.{refusalOf}
-use Rattle.card.specs.Tlv.{onlyOf, onlyFrom}
-use Rattle.card.specs.Object.{rowsOf, objectFrom, objectOf, partIn, bytesAt, fieldPart, fieldValue}
+use Rattle.card.specs.Object.{rowsOf, partIn, bytesAt, fieldPart, fieldValue}
 use Rattle.card.specs.declared.object.Kind.{Kind}
 use Rattle.card.specs.declared.object.Part.{Part}
-use Rattle.card.proofs.TlvLaws.{header-empty}
 use Rattle.card.proofs.ObjectLaws.{part-inside, field-after}
 use Rattle.session.specs.Tables.{kindAt, baseOf, objectSize, stepOfTag}
 use Rattle.session.specs.Condition.{fieldConditions}
 use Rattle.session.specs.Reading.{StepOne, Reading, joinedOne, joinedTwo, joinedAt, fieldIn}
 use Rattle.session.specs.Operation.{noParts, fieldRefusal, partFor, fieldOf}
 use Rattle.session.proofs.Invariant.{parts-one, parts-two, session-of, Kept, OneKept, TwoKept, Invariant}
-use Rattle.session.proofs.InRangeLaws.{in-range}
+use Rattle.session.proofs.InRangeLaws.{none-parts, in-range}
 
 pub field-number : (r : Reading) (m : List ℕ) (size : ℕ) → Invariant r m → fieldRefusal (session-of r) size ≡ refusalOf (fieldConditions size)
 unfolding fieldRefusal
@@ -29,11 +27,7 @@ field-number r m size i = rw (in-range r m i)
 
 -- ---- a field that is not read
 
--- of no bytes there are only empty parts, so among empty parts the part of any field is empty
-none-parts : (k : Kind) → objectOf k [] .1 ≡ noParts
-unfolding objectOf objectFrom onlyOf onlyFrom
-none-parts k = rw header-empty
-
+-- among empty parts the part of any field is empty
 part-none : (k : Kind) (tag : ℕ) → partIn (rowsOf k) noParts tag .len ≡ 0
 part-none k tag =
     let inside = part-inside k [] tag in

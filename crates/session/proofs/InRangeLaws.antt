@@ -1,6 +1,6 @@
 -- A session that stands for a reading is in range: number 4 fits no call of a list.
 -- Assumes nothing.
-use mathlib.Core.Path.{_≡_, refl}
+use mathlib.Core.Path.{_≡_, refl, subst}
 use mathlib.Core.Bool.{true, not, _&&_, _||_, or-true}
 use mathlib.Core.Option.{Option}
 use mathlib.Core.List.{List, [], _∷_}
@@ -9,12 +9,15 @@ use native.Mathlib.Omega.{arith}
 use borrow.Author.Tests.{le-leb, not-true, not-false}
 use lib.Dec.{eqb}
 use lib.ListN.{length, getD}
-use Rattle.card.specs.Object.{empty, mostFields, fieldValue, objectOf}
+use Rattle.card.specs.Tlv.{onlyFrom, onlyOf}
+use Rattle.card.specs.Object.{empty, mostFields, fieldValue, objectOf, objectFrom}
 use Rattle.card.specs.Date.{realDate}
 use Rattle.card.specs.Command.{aidRefused}
 use Rattle.card.specs.declared.object.Part.{Part}
 use Rattle.card.specs.declared.object.Kind.{Kind}
+use Rattle.card.specs.declared.object.Kind.the-variants.{Signed}
 use Rattle.card.proofs.RangeLaws.{all-of}
+use Rattle.card.proofs.TlvLaws.{header-empty}
 use Rattle.card.proofs.ObjectLaws.{AllInside, parts-inside}
 use Rattle.card.proofs.DateLaws.{date-real}
 use Rattle.session.specs.Tables.{goodMode, kindAt, baseOf, objectSize, expiryIn}
@@ -41,10 +44,13 @@ unfolding partsInside
 parts-in-range base k xs hb hn =
     all-of _ mostFields (λ i l. inside-at base (length xs) (objectOf k xs .1) hb hn (parts-inside k xs) i)
 
+-- of no bytes there are only empty parts, so that empty parts are in range
+pub none-parts : (k : Kind) → objectOf k [] .1 ≡ noParts
+unfolding objectOf objectFrom onlyOf onlyFrom
+none-parts k = rw header-empty
+
 no-parts-in-range : (base : ℕ) → base ≤ 4096 → partsInside base noParts ≡ true
-unfolding partsInside
-no-parts-in-range base hb =
-    all-of _ mostFields (λ i l. inside-at base 0 noParts hb (omega arith) (omega arith, (omega arith, (omega arith, (omega arith, (omega arith, tt))))) i)
+no-parts-in-range base hb = subst (λ (ps : List Part). partsInside base ps ≡ true) (none-parts Signed) (parts-in-range base Signed [] hb (omega arith))
 
 -- ---- the groups
 

@@ -1,4 +1,4 @@
--- `session::Session::answer` meets its contract: the answer is taken, or refused. Assumes nothing.
+-- `session::state::Session::answer` meets its contract: the answer is taken, or refused. Assumes nothing.
 use mathlib.Core.Path.{_≡_, sym, _∙_}
 use Prim.Native.Nat.{_-_}
 use native.Mathlib.Omega.{arith}

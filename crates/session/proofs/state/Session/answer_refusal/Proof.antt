@@ -1,4 +1,4 @@
--- `session::Session::answer_refusal` meets its contract: each condition is a test of the code. Assumes nothing.
+-- `session::state::Session::answer_refusal` meets its contract: each condition is a test of the code. Assumes nothing.
 use mathlib.Core.Path.{sym, _∙_}
 use borrow.Author.Tests.{eq-eqb, ne-eqb}
 use borrow.Author.Needs.{needs}

@@ -1,4 +1,4 @@
--- `session::Session::appended` meets its contract: by the status. Assumes nothing.
+-- `session::state::Session::appended` meets its contract: by the status. Assumes nothing.
 use borrow.Author.Needs.{needs}
 use Rattle.session.proofs.state.Session.appended.Statement.{statement}
 use Rattle.session.proofs.state.Session.appended.Tie as tie

@@ -1,4 +1,4 @@
--- `session::Session::cause_by` meets its contract. Assumes nothing.
+-- `session::state::Session::cause_by` meets its contract. Assumes nothing.
 use borrow.Author.Needs.{needs}
 use Rattle.session.proofs.state.Session.cause_by.Statement.{statement}
 use Rattle.session.proofs.state.Session.cause_by.Tie as tie

@@ -1,4 +1,4 @@
--- `session::Session::command` meets its contract: the command is written, or refused. Assumes nothing.
+-- `session::state::Session::command` meets its contract: the command is written, or refused. Assumes nothing.
 use mathlib.Core.Path.{sym, _∙_}
 use borrow.Author.Tests.{not-false}
 use borrow.Author.Needs.{needs}

@@ -1,4 +1,4 @@
--- `session::Session::heard` meets its contract: one outcome is set. Assumes nothing.
+-- `session::state::Session::heard` meets its contract: one outcome is set. Assumes nothing.
 use borrow.Author.Needs.{needs}
 use Rattle.session.specs.Operation.{heardSession}
 use Rattle.session.proofs.state.Session.heard.Statement.{statement}

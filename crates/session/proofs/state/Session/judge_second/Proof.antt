@@ -1,4 +1,4 @@
--- `session::Session::judge_second` meets its contract. Assumes nothing.
+-- `session::state::Session::judge_second` meets its contract. Assumes nothing.
 use borrow.Author.Needs.{needs}
 use Rattle.session.proofs.state.Session.judge_second.Statement.{statement}
 use Rattle.session.proofs.state.Session.judge_second.Tie as tie

@@ -1,4 +1,4 @@
--- `session::Session::nothing_to_send` meets its contract. Assumes nothing.
+-- `session::state::Session::nothing_to_send` meets its contract. Assumes nothing.
 use borrow.Author.Needs.{needs}
 use Rattle.session.proofs.state.Session.nothing_to_send.Statement.{statement}
 use Rattle.session.proofs.state.Session.nothing_to_send.Tie as tie

@@ -1,4 +1,4 @@
--- `session::Session::sent_by` meets its contract: by the answer. Assumes nothing.
+-- `session::state::Session::sent_by` meets its contract: by the answer. Assumes nothing.
 use borrow.Author.Needs.{needs}
 use Rattle.session.proofs.state.Session.sent_by.Statement.{statement}
 use Rattle.session.proofs.state.Session.sent_by.Tie as tie

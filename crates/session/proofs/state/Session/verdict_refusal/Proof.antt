@@ -1,4 +1,4 @@
--- `session::Session::verdict_refusal` meets its contract: each condition is a test of the code. Assumes nothing.
+-- `session::state::Session::verdict_refusal` meets its contract: each condition is a test of the code. Assumes nothing.
 use mathlib.Core.Path.{_≡_, sym, _∙_}
 use mathlib.Core.List.{List}
 use Prim.Native.Nat.{ℕ}

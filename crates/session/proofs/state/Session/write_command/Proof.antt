@@ -1,4 +1,4 @@
--- `session::Session::write_command` meets its contract: each command is one of crate card's. Assumes nothing.
+-- `session::state::Session::write_command` meets its contract: each command is one of crate card's. Assumes nothing.
 use mathlib.Core.Path.{sym, _∙_}
 use Prim.Native.Nat.{_≤_}
 use native.Mathlib.Omega.{arith}
