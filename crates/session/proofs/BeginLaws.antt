@@ -12,10 +12,9 @@ use Rattle.session.specs.Tables.{checks, goodKind, needs, checkOf, outco
 use Rattle.session.specs.Ranges.{outcomesInRange}
 use Rattle.session.specs.Reading.{Opening, begins}
 use Rattle.session.specs.Finding.{verdictOn}
-use Rattle.session.specs.Operation.{opened}
 use Rattle.session.specs.Promise.{goodOpening}
 use Rattle.session.proofs.TestLaws.{either}
-use Rattle.session.proofs.Invariant.{session-of, Stage, Heard, Invariant}
+use Rattle.session.proofs.Invariant.{Stage, Heard, Invariant}
 use Rattle.session.proofs.OutcomeLaws.{place-of, placed}
 
 needed-at : (mode i : ℕ) → i < checks → getD (neededOutcomes mode) i 0 ≡ cond (needs mode (i + 1)) 1 0
@@ -49,8 +48,3 @@ begins-holds o m e =
       stage = Stage.early (omega arith) refl;
       judged = record { six = needed-six (o .mode); small = needed-small (o .mode); verdicts = λ kind g. unheard (o .mode) kind _ g; expiry = tt; list = tt };
     }
-
--- the session that is opened stands for the reading that begins
-pub opened-is : (o : Opening) → opened (o .mode) (o .date) (o .aid) ≡ session-of (begins o)
-unfolding opened
-opened-is o = refl
