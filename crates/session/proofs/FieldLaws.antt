@@ -14,7 +14,7 @@ use Rattle.card.specs.Object.{rowsOf, partIn, bytesAt, fieldPart, fieldValue}
 use Rattle.card.specs.declared.object.Kind.{Kind}
 use Rattle.card.specs.declared.object.Part.{Part}
 use Rattle.card.proofs.ObjectLaws.{part-inside, field-after}
-use Rattle.session.specs.Tables.{kindAt, baseOf, objectSize, stepOfTag}
+use Rattle.session.specs.Tables.{kindAt, baseOf, objectSize, isIn, firstTags, secondTags, stepOfTag}
 use Rattle.session.specs.Condition.{fieldConditions}
 use Rattle.session.specs.Reading.{StepOne, Reading, joinedOne, joinedTwo, joinedAt, fieldIn}
 use Rattle.session.specs.Operation.{noParts, fieldRefusal, partFor, fieldOf}
@@ -88,7 +88,7 @@ step x y = cond x 1 (cond y 2 0)
 
 pub field-is : (r : Reading) (m : List ℕ) (tag : ℕ) → Invariant r m → fieldOf (session-of r) m tag ≡ fieldIn r tag
 unfolding fieldOf fieldIn stepOfTag
-field-is r m tag i = rw (field-number r m (length m) i) (by-step (eqb tag 0x30 || eqb tag 0x34 || eqb tag 0x35 || eqb tag 0x3E) (eqb tag 0xBC))
+field-is r m tag i = rw (field-number r m (length m) i) (by-step (isIn tag firstTags) (isIn tag secondTags))
   where
     by-step : (x y : Bool)
         → cond (right-size m && not (eqb (step x y) 0)) (bytesAt (drop (baseOf (step x y)) m) (partFor (session-of r) (step x y) tag)) []

@@ -147,9 +147,16 @@ baseOf step = cond (eqb step 2) 4096 0
 abbrev pub capacity : ℕ → ℕ → ℕ
 capacity mode step = 4096
 
--- The step whose object has the field with a tag that a field call may ask for, 30, 34, 35, 3E or BC; 0 for another tag.
+-- The tags that a field call may ask for: 30, 34, 35, 3E of step 1's object, BC of step 2's.
+abbrev pub firstTags : List ℕ
+firstTags = 0x30 ∷ 0x34 ∷ 0x35 ∷ 0x3E ∷ []
+
+abbrev pub secondTags : List ℕ
+secondTags = 0xBC ∷ []
+
+-- The step whose object has the field with such a tag; 0 for another tag.
 unfoldable pub stepOfTag : ℕ → ℕ
-stepOfTag tag = cond (eqb tag 0x30 || eqb tag 0x34 || eqb tag 0x35 || eqb tag 0x3E) 1 (cond (eqb tag 0xBC) 2 0)
+stepOfTag tag = cond (isIn tag firstTags) 1 (cond (isIn tag secondTags) 2 0)
 
 -- ---- commands and answers
 
