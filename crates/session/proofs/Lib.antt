@@ -25,6 +25,8 @@ pub mod CallLaws
 pub mod SendLaws
 -- JudgeLaws: step 1's joined data, judged
 pub mod JudgeLaws
+-- RefusedLaws: a refused call changes nothing
+pub mod RefusedLaws
 -- Invariant: what holds after every call
 pub mod Invariant
 -- BeginLaws: the opening

@@ -1,0 +1,33 @@
+-- A refused call changes nothing: for every session and every buffer, where the number is not 0 the session and the whole buffer are those that came in.
+-- Assumes nothing.
+use mathlib.Core.Path.{_≡_, refl}
+use mathlib.Core.List.{List}
+use Prim.Native.Nat.{ℕ}
+use borrow.Author.Tests.{ne-eqb}
+use lib.ListN.{length}
+use Rattle.session.specs.Operation.{dead, openRefusal, openOf, commandRefusal, commandOf, commandBuffer, answerRefusal, answerOf, answerBuffer, verdictRefusal, verdictOf, stampRefusal, stampAnswer, stampBuffer}
+use Rattle.session.specs.declared.state.Session.{Session}
+
+-- a refused opening gives the dead session
+pub open-refused : (mode date : ℕ) (aid : List ℕ) → (openRefusal mode date aid ≡ 0 → ⊥) → openOf mode date aid ≡ (openRefusal mode date aid, dead)
+unfolding openOf
+open-refused mode date aid h = rw (ne-eqb (openRefusal mode date aid) 0 h)
+
+pub command-refused : (s : Session) (out : List ℕ) → let k = commandRefusal s (length out) in
+    (k ≡ 0 → ⊥) → (commandOf s (length out) ≡ (k, 0, s)) × (commandBuffer s out ≡ out)
+unfolding commandOf commandBuffer
+command-refused s out h = let e = ne-eqb (commandRefusal s (length out)) 0 h in (rw e, rw e)
+
+pub answer-refused : (s : Session) (object bytes cancelled : List ℕ) → let k = answerRefusal s (length object) (length bytes) in
+    (k ≡ 0 → ⊥) → (answerOf s object bytes cancelled ≡ (k, s)) × (answerBuffer s object bytes ≡ object)
+unfolding answerOf answerBuffer
+answer-refused s object bytes cancelled h = let e = ne-eqb (answerRefusal s (length object) (length bytes)) 0 h in (rw e, rw e)
+
+pub verdict-refused : (s : Session) (kind says : ℕ) (fascn : List ℕ) → let k = verdictRefusal s kind says fascn in (k ≡ 0 → ⊥) → verdictOf s kind says fascn ≡ (k, s)
+unfolding verdictOf
+verdict-refused s kind says fascn h = rw (ne-eqb (verdictRefusal s kind says fascn) 0 h)
+
+pub stamp-refused : (s : Session) (out : List ℕ) → let k = stampRefusal s (length out) in
+    (k ≡ 0 → ⊥) → (stampAnswer s (length out) ≡ (k, s)) × (stampBuffer s out ≡ out)
+unfolding stampAnswer stampBuffer
+stamp-refused s out h = (refl, rw (ne-eqb (stampRefusal s (length out)) 0 h))
