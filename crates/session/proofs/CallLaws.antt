@@ -1,6 +1,6 @@
 -- What open, answer, verdict, field and stamp give, by the number that refuses them: where it is 0, and where it is not.
 -- Assumes nothing.
-use mathlib.Core.Path.{_≡_, refl, sym, _∙_}
+use mathlib.Core.Path.{_≡_, refl, sym, ap, _∙_}
 use mathlib.Core.Bool.{Bool, true, false, cond, not, _&&_, _||_, and-false}
 use mathlib.Core.List.{List, [], _∷_}
 use Prim.Native.Nat.{ℕ, _+_, _-_, _≤_}
@@ -20,6 +20,7 @@ use Rattle.session.specs.Operation.{openRefusal, answerRefusal, takenSes
 use Rattle.session.specs.declared.state.Session.{Session}
 use Rattle.session.proofs.TestLaws.{and-left, and-right, or-left, or-right}
 use Rattle.session.proofs.ConditionLaws.{none-fit}
+use Rattle.session.proofs.RefusedLaws.{answer-unchanged, stamp-unchanged}
 
 -- ---- any call
 
@@ -68,8 +69,8 @@ answer-taken s object bytes cancelled e z f g = (accepts s e z f, rw (none e z) 
 
 pub answer-refused : (s : Session) (object bytes cancelled : List ℕ) {n : ℕ} → n ≡ answerRefusal s (length object) (length bytes) → (n ≡ 0 → ⊥)
     → ((n, s) ≡ answerOf s object bytes cancelled) × (object ≡ answerBuffer s object bytes)
-unfolding answerOf answerBuffer
-answer-refused s object bytes cancelled e f = (refuses _ e f refl, rw (some e f))
+answer-refused s object bytes cancelled e f =
+    let u = answer-unchanged s object bytes cancelled (λ z. f (e ∙ z)) in (ap (λ (k : ℕ). (k, s)) e ∙ sym (u .0), sym (u .1))
 
 -- ---- field
 
@@ -117,5 +118,4 @@ unfolding stampBuffer
 stamp-accepted s out e z p = rw (none e z, p)
 
 pub stamp-refused : (s : Session) (out : List ℕ) {k : ℕ} → k ≡ stampRefusal s (length out) → (k ≡ 0 → ⊥) → out ≡ stampBuffer s out
-unfolding stampBuffer
-stamp-refused s out e f = rw (some e f)
+stamp-refused s out e f = sym (stamp-unchanged s out (λ z. f (e ∙ z)) .1)

@@ -25,6 +25,8 @@ pub mod CallLaws
 pub mod SendLaws
 -- JudgeLaws: step 1's joined data, judged
 pub mod JudgeLaws
+-- ReplyLaws: the number of a reply says its case
+pub mod ReplyLaws
 -- RefusedLaws: a refused call changes nothing
 pub mod RefusedLaws
 -- Invariant: what holds after every call

@@ -1,7 +1,7 @@
 -- What a session in range tells of its values, one law for each range that a proof cites.
 -- Assumes nothing.
 use mathlib.Core.Path.{_≡_}
-use mathlib.Core.Bool.{Bool, true, false, cond, _&&_, _||_, and-eq-true-iff}
+use mathlib.Core.Bool.{Bool, true, false, cond, _&&_, _||_}
 use mathlib.Core.List.{List, [], _∷_}
 use Prim.Native.Nat.{ℕ, suc, _+_, _-_, _≤_, _<_}
 use native.Mathlib.Omega.{arith}
@@ -18,47 +18,44 @@ use Rattle.session.specs.Tables.{goodMode, baseOf, kindAt, objectSize}
 use Rattle.session.specs.Ranges.{settingInRange, stepInRange, causeInRange, outstandingInRange, progressInRange, outcomesInRange, partInside, partsInside, cardInRange, inRange}
 use Rattle.session.specs.Operation.{partFor}
 use Rattle.session.specs.declared.state.Session.{Session}
+use Rattle.session.proofs.TestLaws.{and-parts}
 
 -- ---- the groups
-
--- both tests of two pass
-pub both : (a b : Bool) → (a && b) ≡ true → (a ≡ true) × (b ≡ true)
-both a b = and-eq-true-iff a b .0
 
 -- setting, progress, outcomes and card
 pub groups-in-range : (s : Session) → inRange s ≡ true
     → ((settingInRange (s .setting) ≡ true) × (progressInRange (s .setting .mode) (s .progress) ≡ true)) × ((outcomesInRange (s .outcomes) ≡ true) × (cardInRange (s .card) ≡ true))
 unfolding inRange
-groups-in-range s e = let h = both _ _ e in (both _ _ (h .0), both _ _ (h .1))
+groups-in-range s e = let h = and-parts _ _ e in (and-parts _ _ (h .0), and-parts _ _ (h .1))
 
 -- ---- single values
 
 pub aid-in-range : (s : Session) → inRange s ≡ true → (5 ≤ s .setting .«aid_len») × (s .setting .«aid_len» ≤ 16)
 aid-in-range s e =
     let n = s .setting .«aid_len» in
-    let fits : leb 5 n && leb n 16 ≡ true = both (goodMode (s .setting .mode) && realDate (s .setting .date)) _ (groups-in-range s e .0 .0) .1 in
-    let h = both (leb 5 n) (leb n 16) fits in
+    let fits : leb 5 n && leb n 16 ≡ true = and-parts (goodMode (s .setting .mode) && realDate (s .setting .date)) _ (groups-in-range s e .0 .0) .1 in
+    let h = and-parts (leb 5 n) (leb n 16) fits in
     (leb-true 5 n (h .0), leb-true n 16 (h .1))
 
 pub filled-in-range : (s : Session) → inRange s ≡ true → s .progress .filled ≤ 4096
 filled-in-range s e =
     let p = s .progress in
     let step = stepInRange (s .setting .mode) (p .step) in
-    let full : step && leb (p .filled) 4096 ≡ true = both (step && leb (p .filled) 4096) (causeInRange (p .cause) && outstandingInRange (p .outstanding) (p .step) (p .cause)) (groups-in-range s e .0 .1) .0 in
-    leb-true (p .filled) 4096 (both step (leb (p .filled) 4096) full .1)
+    let full : step && leb (p .filled) 4096 ≡ true = and-parts (step && leb (p .filled) 4096) (causeInRange (p .cause) && outstandingInRange (p .outstanding) (p .step) (p .cause)) (groups-in-range s e .0 .1) .0 in
+    leb-true (p .filled) 4096 (and-parts step (leb (p .filled) 4096) full .1)
 
 -- the parts of step 1 and those of step 2
 pub parts-in-range : (s : Session) → inRange s ≡ true → (partsInside (baseOf 1) (s .card .first) ≡ true) × (partsInside (baseOf 2) (s .card .second) ≡ true)
 parts-in-range s e =
     let c = s .card in
-    both (partsInside (baseOf 1) (c .first)) (partsInside (baseOf 2) (c .second)) (both (eqb (c .expiry) 0 || realDate (c .expiry)) _ (groups-in-range s e .1 .1) .1)
+    and-parts (partsInside (baseOf 1) (c .first)) (partsInside (baseOf 2) (c .second)) (and-parts (eqb (c .expiry) 0 || realDate (c .expiry)) _ (groups-in-range s e .1 .1) .1)
 
 -- ---- parts
 
 -- a part that passes its test ends inside the object buffer
 pub part-ends : (base : ℕ) (p : Part) → base ≤ objectSize → partInside base p ≡ true → base + (p .start + p .len) ≤ objectSize
 part-ends base p h e =
-    let t = both (leb (p .start) (objectSize - base)) (leb (p .len) (objectSize - base - p .start)) e in
+    let t = and-parts (leb (p .start) (objectSize - base)) (leb (p .len) (objectSize - base - p .start)) e in
     omega (arith, h, leb-true (p .start) (objectSize - base) (t .0), leb-true (p .len) (objectSize - base - p .start) (t .1))
 
 -- and so does the part of the field with a tag, where as many parts pass as there are rows

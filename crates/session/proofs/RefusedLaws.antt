@@ -9,25 +9,25 @@ use Rattle.session.specs.Operation.{dead, openRefusal, openOf, commandRe
 use Rattle.session.specs.declared.state.Session.{Session}
 
 -- a refused opening gives the dead session
-pub open-refused : (mode date : ℕ) (aid : List ℕ) → (openRefusal mode date aid ≡ 0 → ⊥) → openOf mode date aid ≡ (openRefusal mode date aid, dead)
+pub open-dead : (mode date : ℕ) (aid : List ℕ) → (openRefusal mode date aid ≡ 0 → ⊥) → openOf mode date aid ≡ (openRefusal mode date aid, dead)
 unfolding openOf
-open-refused mode date aid h = rw (ne-eqb (openRefusal mode date aid) 0 h)
+open-dead mode date aid h = rw (ne-eqb (openRefusal mode date aid) 0 h)
 
-pub command-refused : (s : Session) (out : List ℕ) → let k = commandRefusal s (length out) in
+pub command-unchanged : (s : Session) (out : List ℕ) → let k = commandRefusal s (length out) in
     (k ≡ 0 → ⊥) → (commandOf s (length out) ≡ (k, 0, s)) × (commandBuffer s out ≡ out)
 unfolding commandOf commandBuffer
-command-refused s out h = let e = ne-eqb (commandRefusal s (length out)) 0 h in (rw e, rw e)
+command-unchanged s out h = let e = ne-eqb (commandRefusal s (length out)) 0 h in (rw e, rw e)
 
-pub answer-refused : (s : Session) (object bytes cancelled : List ℕ) → let k = answerRefusal s (length object) (length bytes) in
+pub answer-unchanged : (s : Session) (object bytes cancelled : List ℕ) → let k = answerRefusal s (length object) (length bytes) in
     (k ≡ 0 → ⊥) → (answerOf s object bytes cancelled ≡ (k, s)) × (answerBuffer s object bytes ≡ object)
 unfolding answerOf answerBuffer
-answer-refused s object bytes cancelled h = let e = ne-eqb (answerRefusal s (length object) (length bytes)) 0 h in (rw e, rw e)
+answer-unchanged s object bytes cancelled h = let e = ne-eqb (answerRefusal s (length object) (length bytes)) 0 h in (rw e, rw e)
 
-pub verdict-refused : (s : Session) (kind says : ℕ) (fascn : List ℕ) → let k = verdictRefusal s kind says fascn in (k ≡ 0 → ⊥) → verdictOf s kind says fascn ≡ (k, s)
+pub verdict-unchanged : (s : Session) (kind says : ℕ) (fascn : List ℕ) → let k = verdictRefusal s kind says fascn in (k ≡ 0 → ⊥) → verdictOf s kind says fascn ≡ (k, s)
 unfolding verdictOf
-verdict-refused s kind says fascn h = rw (ne-eqb (verdictRefusal s kind says fascn) 0 h)
+verdict-unchanged s kind says fascn h = rw (ne-eqb (verdictRefusal s kind says fascn) 0 h)
 
-pub stamp-refused : (s : Session) (out : List ℕ) → let k = stampRefusal s (length out) in
+pub stamp-unchanged : (s : Session) (out : List ℕ) → let k = stampRefusal s (length out) in
     (k ≡ 0 → ⊥) → (stampAnswer s (length out) ≡ (k, s)) × (stampBuffer s out ≡ out)
 unfolding stampAnswer stampBuffer
-stamp-refused s out h = (refl, rw (ne-eqb (stampRefusal s (length out)) 0 h))
+stamp-unchanged s out h = (refl, rw (ne-eqb (stampRefusal s (length out)) 0 h))

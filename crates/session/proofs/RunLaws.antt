@@ -14,6 +14,7 @@ use Rattle.session.specs.Reading.{Told, Reading, commandRefused, answerR
 use Rattle.session.specs.Operation.{commandOf, takenSession, takenBuffer, answerOf, answerBuffer, verdictRefusal, verdictOf, stampRefusal, stampAnswer}
 use Rattle.session.specs.Promise.{Call, told, Host, numberOf, after, run, numbers, LentNow, Lent}
 use Rattle.session.specs.declared.state.Session.{Session}
+use Rattle.session.proofs.TestLaws.{by-test, either}
 use Rattle.session.proofs.Invariant.{session-of, host-of, Invariant, Reaches, stays, Leads}
 use Rattle.session.proofs.InRangeLaws.{in-range}
 use Rattle.session.proofs.CommandLaws.{command-gives, on-command}
@@ -65,30 +66,16 @@ number-is r m (Call.stamp out) i = stamp-number r m (length out) i
 
 -- ---- where a call leads
 
-command-leads : (n k : ℕ) (x y : Session) (m : List ℕ) (r₁ r₂ : Reading) (b : Bool) → (b ≡ true → Leads x m r₁) → Leads y m r₂
-    → Leads ((cond {A = ℕ × ℕ × Session} b (0, n, x) (k, 0, y)) .2) m (cond b r₁ r₂)
-command-leads n k x y m r₁ r₂ true f g = f refl
-command-leads n k x y m r₁ r₂ false f g = g
-
 answer-leads : (k : ℕ) (x y : Session) (m₁ m₂ m : List ℕ) (r₁ r₂ : Reading) (b : Bool) → (b ≡ true → Leads x m₁ r₁) → Leads y m r₂
     → Leads ((cond {A = ℕ × Session} b (0, x) (k, y)) .1) (cond b (cond b m₁ m₂) m) (cond b r₁ r₂)
 answer-leads k x y m₁ m₂ m r₁ r₂ true f g = f refl
 answer-leads k x y m₁ m₂ m r₁ r₂ false f g = g
 
-verdict-leads : (k : ℕ) (x y : Session) (m : List ℕ) (r₁ r₂ : Reading) (b : Bool) → (b ≡ true → Leads x m r₁) → Leads y m r₂
-    → Leads ((cond {A = ℕ × Session} b (0, x) (k, y)) .1) m (cond b r₁ r₂)
-verdict-leads k x y m r₁ r₂ true f g = f refl
-verdict-leads k x y m r₁ r₂ false f g = g
-
-nothing-changes : (h : Host) (r : Reading) (b : Bool) → Reaches h r → Reaches h (cond b r r)
-nothing-changes h r true a = a
-nothing-changes h r false a = a
-
 pub on-call : (r : Reading) (m : List ℕ) (c : Call) → Invariant r m → LentNow (host-of r m) c → Reaches (after (host-of r m) c) (read r (told c))
 unfolding read answerOf answerBuffer stampAnswer
 on-call r m (Call.command out) i l =
     rw (command-gives r m (length out) i)
-    (command-leads _ _ _ _ m _ _ (eqb (commandRefused r (length out)) 0) (λ e. stays _ m (on-command r m (length out) i (eqb-true _ 0 e))) (stays r m i))
+    (by-test (λ (x : ℕ × ℕ × Session) (q : Reading). Leads (x .2) m q) _ _ _ _ (eqb (commandRefused r (length out)) 0) (λ e. stays _ m (on-command r m (length out) i (eqb-true _ 0 e))) (λ _. stays r m i))
 on-call r m (Call.answer object bytes cancelled) i l =
     let k = answerRefused r (length object) (length bytes) in
     rw (answer-number r m (length object) (length bytes) i)
@@ -102,9 +89,9 @@ on-call r m (Call.answer object bytes cancelled) i l =
         rw o (takes-answer r m (dataOf bytes) (statusBytes bytes) cancelled i (sym (ap length o) ∙ a .whole) (a .below) (part-bytes (length bytes - 2) 0 bytes (l .1)))
 on-call r m (Call.verdict kind says fascn) i l =
     rw (verdict-gives r m kind says fascn i)
-    (verdict-leads _ _ _ m _ _ (eqb (verdictRefused r kind says fascn) 0) (λ e. stays _ m (on-verdict r m kind says fascn i (eqb-true _ 0 e))) (stays r m i))
-on-call r m (Call.field object tag) i l = nothing-changes (host-of r m) r (eqb (refusedBy r (Told.field (length object) tag)) 0) (stays r m i)
-on-call r m (Call.stamp out) i l = nothing-changes (host-of r m) r (eqb (refusedBy r (Told.stamp (length out))) 0) (stays r m i)
+    (by-test (λ (x : ℕ × Session) (q : Reading). Leads (x .1) m q) _ _ _ _ (eqb (verdictRefused r kind says fascn) 0) (λ e. stays _ m (on-verdict r m kind says fascn i (eqb-true _ 0 e))) (λ _. stays r m i))
+on-call r m (Call.field object tag) i l = either (Reaches (host-of r m)) (eqb (refusedBy r (Told.field (length object) tag)) 0) (stays r m i) (stays r m i)
+on-call r m (Call.stamp out) i l = either (Reaches (host-of r m)) (eqb (refusedBy r (Told.stamp (length out))) 0) (stays r m i) (stays r m i)
 
 -- ---- every list
 

@@ -1,7 +1,7 @@
 -- Tests: what a test of several gives, and a choice made on both sides by one test.
 -- Assumes nothing.
 use mathlib.Core.Path.{_≡_, refl, subst}
-use mathlib.Core.Bool.{Bool, true, false, cond, _&&_, _||_}
+use mathlib.Core.Bool.{Bool, true, false, cond, _&&_, _||_, and-eq-true-iff}
 
 abbrev Untrue : Bool → Type 0
 Untrue true = ⊥
@@ -11,13 +11,15 @@ Untrue false = Unit
 pub clash : {P : Type 0} → false ≡ true → P
 clash e = absurd (subst Untrue e tt)
 
+-- both tests of two that pass, and each of them
+pub and-parts : (a b : Bool) → a && b ≡ true → (a ≡ true) × (b ≡ true)
+and-parts a b = and-eq-true-iff a b .0
+
 pub and-left : (a b : Bool) → a && b ≡ true → a ≡ true
-and-left true b e = refl
-and-left false b e = e
+and-left a b e = and-parts a b e .0
 
 pub and-right : (a b : Bool) → a && b ≡ true → b ≡ true
-and-right true b e = e
-and-right false b e = clash e
+and-right a b e = and-parts a b e .1
 
 pub and-both : {a b : Bool} → a ≡ true → b ≡ true → a && b ≡ true
 and-both {a} {b} p q = rw (p, q)

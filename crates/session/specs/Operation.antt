@@ -26,7 +26,7 @@ use Rattle.session.specs.declared.state.Reply.the-variants as replies
 use Rattle.session.specs.declared.state.Answered.{Answered}
 use Rattle.session.specs.declared.state.Commanded.{Commanded}
 
--- ---- the answers of the code: document 01's number of each case
+-- ---- the answers of the code: document 01's number of each case; no two have one number (`reply-is`, proofs/ReplyLaws.antt)
 
 abbrev pub replyNumber : Reply → ℕ
 replyNumber replies.Accepted = 0
@@ -34,8 +34,7 @@ replyNumber replies.WrongMode = 1
 replyNumber replies.UnrealDate = 2
 replyNumber replies.WrongAid = 3
 replyNumber replies.OutOfRange = 4
-replyNumber replies.NothingToSend = 5
-replyNumber replies.NoCommandOutstanding = 5
+replyNumber replies.OutOfTurn = 5
 replyNumber replies.ShortBuffer = 6
 replyNumber replies.WrongObjectBuffer = 7
 replyNumber replies.WrongAnswerLength = 8
@@ -162,8 +161,8 @@ judgedSession s joined cancelled =
     cond (eqb k 0) (nextStep s joined cancelled) (withProgress s (ended (s .progress) k 0 0))
 
 -- The cause of rules 1 to 3.
-abbrev pub causeBy : Session → Status → ℕ → ℕ
-causeBy s status n =
+abbrev pub causeIn : Session → Status → ℕ → ℕ
+causeIn s status n =
     ruleCause status (isResponse (s .progress .next)) n (s .progress .filled) (capacity (s .setting .mode) (s .progress .step))
 
 -- Where the data of the next answer is stored in the object buffer, and the step's joined data once n bytes are.
@@ -182,14 +181,14 @@ appendedSession Other s joined n cancelled = judgedSession s joined cancelled
 -- An answer that is accepted.
 unfoldable pub takenSession : Session → List ℕ → List ℕ → List ℕ → List ℕ → Session
 takenSession s object bytes status cancelled =
-    let k = causeBy s (statusOf status) (length bytes) in
+    let k = causeIn s (statusOf status) (length bytes) in
     cond (eqb k 0)
     (appendedSession (statusOf status) s (joinedIn (s .progress) (stored object (placeOf (s .progress)) bytes) (length bytes)) (length bytes) cancelled)
     (withProgress s (ended (s .progress) k (statusShown k (getD status 0 0)) (statusShown k (getD status 1 0))))
 
 unfoldable pub takenBuffer : Session → List ℕ → List ℕ → List ℕ → List ℕ
 takenBuffer s object bytes status =
-    cond (eqb (causeBy s (statusOf status) (length bytes)) 0) (stored object (placeOf (s .progress)) bytes) object
+    cond (eqb (causeIn s (statusOf status) (length bytes)) 0) (stored object (placeOf (s .progress)) bytes) object
 
 unfoldable pub answerOf : Session → List ℕ → List ℕ → List ℕ → ℕ × Session
 answerOf s object bytes cancelled =

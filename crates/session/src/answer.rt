@@ -14,7 +14,7 @@ ghost use Prim.Native.Nat.{_+_, _≤_, _<_, _^_};
 ghost use lib.ListN.{length};
 ghost use Rattle.session.specs.Tables.{objectSize, isResponse, isOther, isMore, ruleCause};
 ghost use Rattle.session.specs.Ranges.{inRange};
-ghost use Rattle.session.specs.Operation.{replyNumber, given, withProgress, ended, more, answerRefusal, causeBy, appendedSession, takenSession, takenBuffer, answerOf, answerBuffer};
+ghost use Rattle.session.specs.Operation.{replyNumber, given, withProgress, ended, more, answerRefusal, causeIn, appendedSession, takenSession, takenBuffer, answerOf, answerBuffer};
 ghost use Rattle.session.specs.Promise.{AnswerKept};
 
 fn is_response(next: Next) -> bool
@@ -71,7 +71,7 @@ impl Session {
             return Reply::OutOfRange;
         }
         if !self.progress.outstanding {
-            return Reply::NoCommandOutstanding;
+            return Reply::OutOfTurn;
         }
         if size != 8192 {
             return Reply::WrongObjectBuffer;
@@ -117,7 +117,7 @@ impl Session {
     // The cause that rules 1 to 3 give of an answer with n bytes of data.
     fn cause_by(self, status: Status, n: usize) -> u8
         requires { ⌜ (n ≤ 256) × (self .progress .filled ≤ 4096) ⌝ }
-        ensures { λ r. ⌜ r ≡ causeBy self status n ⌝ }
+        ensures { λ r. ⌜ r ≡ causeIn self status n ⌝ }
     {
         let p = self.progress;
         let next = p.next;

@@ -92,7 +92,7 @@ impl Session {
         if self.nothing_to_send() {
             return Commanded {
                 session: self,
-                reply: Reply::NothingToSend,
+                reply: Reply::OutOfTurn,
                 count: 0,
             };
         }

@@ -60,10 +60,8 @@ pub enum Reply {
     WrongAid,
     // session dead or out of range
     OutOfRange,
-    // command: step 3, a cause of 16 to 22, or a command outstanding
-    NothingToSend,
-    // answer: no command outstanding
-    NoCommandOutstanding,
+    // command: nothing to send, that is step 3, a cause of 16 to 22, or a command outstanding; answer: no command outstanding
+    OutOfTurn,
     // command, stamp: buffer too short
     ShortBuffer,
     // answer: object buffer not 8,192 bytes
@@ -95,8 +93,7 @@ impl Reply {
             Reply::UnrealDate => 2,
             Reply::WrongAid => 3,
             Reply::OutOfRange => 4,
-            Reply::NothingToSend => 5,
-            Reply::NoCommandOutstanding => 5,
+            Reply::OutOfTurn => 5,
             Reply::ShortBuffer => 6,
             Reply::WrongObjectBuffer => 7,
             Reply::WrongAnswerLength => 8,

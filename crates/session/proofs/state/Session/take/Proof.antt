@@ -7,7 +7,7 @@ use borrow.Author.Needs.{needs}
 use lib.ListN.{length}
 use denote.Ref.{now}
 use Rattle.card.specs.Command.{statusOf}
-use Rattle.session.specs.Operation.{causeBy, joinedIn, takenSession, takenBuffer}
+use Rattle.session.specs.Operation.{causeIn, joinedIn, takenSession, takenBuffer}
 use Rattle.session.proofs.CallLaws.{none}
 use Rattle.session.proofs.BufferLaws.{base-most}
 use Rattle.session.proofs.RuleLaws.{rule-fits}
@@ -17,7 +17,7 @@ use Rattle.session.proofs.state.Session.take.Tie as tie
 end-fits : (c : tie.After-base-of) → let a = c .before .before .before .before .before .before .before .before .before .args in c .base-of .result + a .self .progress .filled + length (a .bytes .now) ≤ 8192
 end-fits c = omega (arith, base-most (c .before .before .before .before .before .before .before .before .before .args .self .progress .step), c .base-of .ensures, rule-fits _ _ _ _ _ (sym (c .before .before .before .cause-by .ensures) ∙ c .before .before .if1 .taken))
 
-cause-is : (c : tie.After-cause-by) → let a = c .before .before .before .before .before .before .args in c .cause-by .result ≡ causeBy (a .self) (statusOf (a .status .now)) (length (a .bytes .now))
+cause-is : (c : tie.After-cause-by) → let a = c .before .before .before .before .before .before .args in c .cause-by .result ≡ causeIn (a .self) (statusOf (a .status .now)) (length (a .bytes .now))
 cause-is c = rw (← c .before .status-of .ensures) (c .cause-by .ensures)
 
 add-at : tie.Need-add-at
