@@ -1,6 +1,6 @@
 -- The promise as the contracts carry it: what each call gives and leaves, for every history that leads to its session and buffer.
 -- Assumes nothing.
-use mathlib.Core.Path.{_≡_, refl, sym, ap, ap₂, _∙_}
+use mathlib.Core.Path.{_≡_, refl, sym, ap, ap₂, subst, _∙_}
 use mathlib.Core.Bool.{Bool, true, false, cond}
 use mathlib.Core.Logic.{_↔_}
 use mathlib.Core.List.{List, [], _∷_, _++_}
@@ -18,7 +18,7 @@ use Rattle.session.specs.Condition.{openConditions}
 use Rattle.session.specs.Reading.{refusedBy}
 use Rattle.session.specs.Finding.{Finding, finding, standing, stampOf}
 use Rattle.session.specs.Operation.{replyNumber, given, commandGiven, dead, opened, openRefusal, openOf, commandOf, commandBuffer, answerRefusal, answerOf, answerBuffer, verdictOf, fieldOf, stampAnswer, stampBuffer}
-use Rattle.session.specs.Promise.{Call, told, Host, numberOf, after, run, Bytes, LentNow, Lent, goodOpening, History, start, finish, readingOf, stampFor, GoesOn, OpenKept, CommandKept, AnswerKept, VerdictKept, FieldKept, StampKept}
+use Rattle.session.specs.Promise.{Call, told, Host, numberOf, after, run, Bytes, LentNow, Lent, goodOpening, History, start, finish, readingOf, stampFor, GoesOn, BeginsWith, OpenKept, CommandKept, AnswerKept, VerdictKept, FieldKept, StampKept}
 use Rattle.session.specs.declared.state.Session.{Session}
 use Rattle.session.specs.declared.state.Answered.{Answered}
 use Rattle.session.specs.declared.state.Commanded.{Commanded}
@@ -38,7 +38,7 @@ lent-more : (cs : List Call) (h : Host) (c : Call) → Lent h cs → LentNow (ru
 lent-more [] h c l k = (k, tt)
 lent-more (x ∷ cs) h c l k = (l .0, lent-more cs (after h x) c (l .1) k)
 
-goes-on : (h : History) (c : Call) (s : Session) (object : List ℕ) → LentNow (finish h) c → after (finish h) c ≡ record { session = s; object = object } → GoesOn h c s object
+pub goes-on : (h : History) (c : Call) (s : Session) (object : List ℕ) → LentNow (finish h) c → after (finish h) c ≡ record { session = s; object = object } → GoesOn h c s object
 goes-on h c s object l e =
     record {
       history = record { opening = h .opening; good = h .good; object = h .object; calls = h .calls ++ (c ∷ []); lent = lent-more (h .calls) (start h) c (h .lent) l };
@@ -61,6 +61,17 @@ opening-good mode date aid e =
     let c = none-fit (openConditions mode date aid) refl e in
     and-both (and-both (not-false (goodMode mode) (c .0)) (not-false (realDate date) (c .1 .0))) (rw (c .1 .1 .0))
 
+-- it begins a history, with any object buffer
+pub opening-begins : (mode date : ℕ) (aid object : List ℕ) → openRefusal mode date aid ≡ 0 → BeginsWith (record { mode = mode; date = date; aid = aid }) (opened mode date aid) object
+opening-begins mode date aid object e =
+    record {
+      history = record { opening = record { mode = mode; date = date; aid = aid }; good = opening-good mode date aid e; object = object; calls = []; lent = tt };
+      opening = refl;
+      first = refl;
+      calls = refl;
+      host = refl;
+    }
+
 opened-zero : (k : ℕ) (s d x : Session) (n : ℕ) (b : Bool) → eqb k 0 ≡ b → (n, x) ≡ cond {A = ℕ × Session} b (0, s) (k, d) → n ≡ 0 → (k ≡ 0) × (x ≡ s)
 opened-zero k s d x n true p e z = (eqb-true k 0 p, ap (λ (y : ℕ × Session). y .1) e)
 opened-zero k s d x n false p e z = absurd (eqb-false k 0 p (sym (ap (λ (y : ℕ × Session). y .0) e) ∙ z))
@@ -69,13 +80,7 @@ pub open-kept : (mode date : ℕ) (aid : List ℕ) (r : Answered) → given r �
 unfolding openOf
 open-kept mode date aid r e z object =
     let c = opened-zero (openRefusal mode date aid) (opened mode date aid) dead (r .session) (replyNumber (r .reply)) (eqb (openRefusal mode date aid) 0) refl e z in
-    record {
-      history = record { opening = record { mode = mode; date = date; aid = aid }; good = opening-good mode date aid (c .0); object = object; calls = []; lent = tt };
-      opening = refl;
-      first = refl;
-      calls = refl;
-      host = ap (λ (s : Session). record { session = s; object = object }) (sym (c .1));
-    }
+    subst (λ (s : Session). BeginsWith (record { mode = mode; date = date; aid = aid }) s object) (sym (c .1)) (opening-begins mode date aid object (c .0))
 
 -- ---- command
 

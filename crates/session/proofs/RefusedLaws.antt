@@ -1,10 +1,12 @@
 -- A refused call changes nothing: for every session and every buffer, where the number is not 0 the session and the whole buffer are those that came in.
+-- On the dead session every call is refused, by 4.
 -- Assumes nothing.
 use mathlib.Core.Path.{_≡_, refl}
 use mathlib.Core.List.{List}
 use Prim.Native.Nat.{ℕ}
 use borrow.Author.Tests.{ne-eqb}
 use lib.ListN.{length}
+use Rattle.session.specs.Ranges.{inRange}
 use Rattle.session.specs.Operation.{dead, openRefusal, openOf, commandRefusal, commandOf, commandBuffer, answerRefusal, answerOf, answerBuffer, verdictRefusal, verdictOf, stampRefusal, stampAnswer, stampBuffer}
 use Rattle.session.specs.declared.state.Session.{Session}
 
@@ -31,3 +33,22 @@ pub stamp-unchanged : (s : Session) (out : List ℕ) → let k = stampRefusal s 
     (k ≡ 0 → ⊥) → (stampAnswer s (length out) ≡ (k, s)) × (stampBuffer s out ≡ out)
 unfolding stampAnswer stampBuffer
 stamp-unchanged s out h = (refl, rw (ne-eqb (stampRefusal s (length out)) 0 h))
+
+-- ---- the dead session
+
+-- every call on it is refused by 4
+pub command-dead : (room : ℕ) → commandRefusal dead room ≡ 4
+unfolding commandRefusal inRange
+command-dead room = refl
+
+pub answer-dead : (size n : ℕ) → answerRefusal dead size n ≡ 4
+unfolding answerRefusal inRange
+answer-dead size n = refl
+
+pub verdict-dead : (kind says : ℕ) (fascn : List ℕ) → verdictRefusal dead kind says fascn ≡ 4
+unfolding verdictRefusal inRange
+verdict-dead kind says fascn = refl
+
+pub stamp-dead : (room : ℕ) → stampRefusal dead room ≡ 4
+unfolding stampRefusal inRange
+stamp-dead room = refl

@@ -46,8 +46,8 @@ fn no_card() -> Card
     }
 }
 
-// All zeros.
-fn dead_session() -> Session
+// The dead session, all zeros: no session is open.
+pub fn dead_session() -> Session
     ensures { λ r. ⌜ r ≡ dead ⌝ }
 {
     let setting = Setting {

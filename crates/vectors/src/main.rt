@@ -6,14 +6,14 @@ mod line;
 mod print;
 mod report;
 
-// What the call of that name says of the bytes that the text spells.
+// What the call of that name says of the bytes that the text spells, 4,096 at most.
 fn call(name: &[u8], text: &[u8]) {
-    if !line::is_hex(text) {
+    if !(text::hex::is_hex(text) & (text.len() <= 8192)) {
         print::no_vector();
         return;
     }
     let mut b = io::buffer();
-    let n = line::hex_bytes(text, &mut b);
+    let n = text::hex::read(text, &mut b);
     report::fascn::answer(name, &b[..n]);
 }
 

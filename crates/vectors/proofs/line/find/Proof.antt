@@ -1,59 +1,7 @@
--- `vectors::line::find` meets its contract: a turn passes one byte that is not x. Assumes nothing.
-use mathlib.Core.Path.{_≡_}
-use mathlib.Core.List.{List}
-use Prim.Native.Nat.{ℕ, _+_, _-_, _≤_, _<_}
-use native.Mathlib.Numerals.{add-one, one-add}
-use native.Mathlib.Omega.{arith}
+-- `vectors::line::find` meets its contract: the place is inside, since `from` is. Assumes nothing.
 use borrow.Author.Needs.{needs}
-use borrow.Author.Tests.{eq-eqb, ne-eqb}
-use lib.ListN.{length, getD, drop}
-use lib.Seq.{drop-cons, drop-length}
-use Rattle.vectors.specs.Line.{countBefore}
 use Rattle.vectors.proofs.line.find.Statement.{statement}
 use Rattle.vectors.proofs.line.find.Tie as tie
 
--- at an x, at another number, and at the end
-here : (x : ℕ) (s : List ℕ) (i : ℕ) → i < length s → getD s i 0 ≡ x → countBefore x (drop i s) ≡ 0
-unfolding countBefore
-here x s i h e = rw (drop-cons s i 0 h, eq-eqb _ _ e)
-
-past : (x : ℕ) (s : List ℕ) (i : ℕ) → i < length s → (getD s i 0 ≡ x → ⊥) → countBefore x (drop i s) ≡ 1 + countBefore x (drop (i + 1) s)
-unfolding countBefore
-past x s i h n = rw (drop-cons s i 0 h, ne-eqb _ _ n, add-one, one-add)
-
-none : (x : ℕ) (s : List ℕ) → countBefore x (drop (length s) s) ≡ 0
-unfolding countBefore
-none x s = rw (drop-length s)
-
-abbrev Inv-loop : tie.InvT-loop
-Inv-loop s from x i₀ i = (i ≤ length s) × (from + countBefore x (drop from s) ≡ i + countBefore x (drop i s))
-
-abbrev μ-loop : tie.MeasureT-loop
-μ-loop s from x i₀ i = length s - i
-
-returns : tie.Need-returns Inv-loop μ-loop
-returns c =
-    let at = c .before .before .before in
-    let a = at .before .args in
-    let e = here (a .x) (a .s .now) (at .loop .i) (c .before .before .loop-test .taken) (c .if1 .taken) in
-    (omega (arith, at .loop .inv .1, e), omega arith)
-
-loop-again : tie.Need-loop-again Inv-loop μ-loop
-loop-again c =
-    let at = c .before .before .before in
-    let a = at .before .args in
-    let e = past (a .x) (a .s .now) (at .loop .i) (c .before .before .loop-test .taken) (c .if1 .left) in
-    (omega arith, omega (arith, at .loop .inv .1, e))
-
-returns-2 : tie.Need-returns-2 Inv-loop μ-loop
-returns-2 c =
-    let at = c .before in
-    let a = at .before .args in
-    let e : at .loop .i ≡ length (a .s .now) = omega arith in
-    (rw (at .loop .inv .1, e, none (a .x) (a .s .now)) (omega arith), omega arith)
-
 pub find-spec : {M : Type 1} → statement M
-find-spec =
-    tie.close
-    (tie.spec
-    Inv-loop μ-loop (λ c. search needs) (λ c. search needs) returns (λ c. search needs) (λ c. search needs) loop-again returns-2)
+find-spec = tie.close (tie.spec (λ c κs. search needs) (λ c. (c .find .ensures .0, c .find .ensures .1 (search needs))))

@@ -1,0 +1,155 @@
+// A list as text, a line to a key, and as keys.
+ghost use mathlib.Core.Path.{_≡_};
+ghost use Prim.Native.Nat.{_+_, _*_, _/_, _≤_};
+ghost use lib.ListN.{length};
+ghost use Rattle.card.specs.Range.{front, written, stored};
+ghost use Rattle.text.specs.Form.{between};
+ghost use Rattle.ccl.specs.ListText.{goodLines, keyAt, readAnswer, readOf, keysThen, smallKeys, textOf, writeAnswer, writeOf, textThen};
+use crate::line;
+
+// What read answers: how many keys, the number of the first malformed line, or that the places are too few. `readAnswer` gives document 01's number of each.
+pub enum ListRead {
+    Keys(usize),
+    Malformed(usize),
+    TooFewPlaces,
+}
+
+// What write answers: how many keys, that a key has more than 16 digits, or that the buffer is too short. `writeAnswer` gives document 01's number of each.
+pub enum ListWritten {
+    Keys(usize),
+    KeyTooLarge,
+    ShortBuffer,
+}
+
+impl ListRead {
+    // Document 01's number, 0 where the text is read.
+    pub fn number(self) -> u8
+        ensures { λ r. ⌜ r ≡ readAnswer self .0 ⌝ }
+    {
+        match self {
+            ListRead::Keys(_) => 0,
+            ListRead::Malformed(_) => 20,
+            ListRead::TooFewPlaces => 21,
+        }
+    }
+}
+
+impl ListWritten {
+    // Document 01's number, 0 where the keys are written.
+    pub fn number(self) -> u8
+        ensures { λ r. ⌜ r ≡ writeAnswer self .0 ⌝ }
+    {
+        match self {
+            ListWritten::Keys(_) => 0,
+            ListWritten::KeyTooLarge => 22,
+            ListWritten::ShortBuffer => 21,
+        }
+    }
+}
+
+// Whether the 32 bytes s are a list line; the two strings are the lines of the lowest and the highest key. There is no early exit.
+fn good_line(s: &[u8], lowest: &[u8; 32], highest: &[u8; 32]) -> bool
+    requires { ⌜ (length (now s) ≡ 32) × (length (now lowest) ≡ 32) × (length (now highest) ≡ 32) ⌝ }
+    ensures { λ r. ⌜ r ≡ between (now (lowest .entry)) (now (highest .entry)) (now (s .entry)) ⌝ }
+{
+    let mut ok = true;
+    for i in 0..32 {
+        ok = ok & ((lowest[i] <= s[i]) & (s[i] <= highest[i]));
+    }
+    ok
+}
+
+// How many good lines the text begins with.
+fn good_lines(text: &[u8]) -> usize
+    ensures { λ r. ⌜ r ≡ goodLines (now (text .entry)) ⌝ }
+    ensures inside { λ r. ⌜ 32 * r ≤ length (now (text .entry)) ⌝ }
+{
+    let lowest = b"(card (0000 0000 000000) (0 0))\n";
+    let highest = b"(card (9999 9999 999999) (9 9))\n";
+    let lines = text.len() / 32;
+    let mut n = 0;
+    while n < lines {
+        let at = 32 * n;
+        let end = at + 32;
+        if !good_line(&text[at..end], lowest, highest) {
+            return n;
+        }
+        n += 1;
+    }
+    n
+}
+
+// The keys of the first n lines, stored at the front of keys.
+fn put_keys(text: &[u8], n: usize, keys: &mut [u64])
+    requires { ⌜ (32 * n ≤ length (now text)) × (n ≤ length (now keys)) ⌝ }
+    ensures { λ r. ⌜ now (keys .exit) ≡ written (now (keys .entry)) 0 n (keyAt (now (text .entry))) ⌝ }
+{
+    for i in 0..n {
+        let at = 32 * i;
+        let end = at + 32;
+        keys[i] = line::key_in(&text[at..end]);
+    }
+}
+
+// The keys of a list's text, in its order, stored at the front of keys. The whole text is judged first.
+pub fn read(text: &[u8], keys: &mut [u64]) -> ListRead
+    ensures { λ r. ⌜ readAnswer r ≡ readOf (now (text .entry)) (length (now (keys .entry))) ⌝ }
+    ensures { λ r. ⌜ now (keys .exit) ≡ keysThen (now (text .entry)) (now (keys .entry)) ⌝ }
+{
+    let n = good_lines(text);
+    if 32 * n != text.len() {
+        return ListRead::Malformed(n + 1);
+    }
+    if keys.len() < n {
+        return ListRead::TooFewPlaces;
+    }
+    put_keys(text, n, keys);
+    ListRead::Keys(n)
+}
+
+// Whether every key has at most 16 digits.
+fn small_keys(keys: &[u64]) -> bool
+    ensures { λ r. ⌜ r ≡ smallKeys (now (keys .entry)) ⌝ }
+{
+    let mut ok = true;
+    for i in 0..keys.len() {
+        ok = ok & (keys[i] < 10000000000000000);
+    }
+    ok
+}
+
+// A line stored in out from place `at` on.
+fn put_line(out: &mut [u8], at: usize, line: &[u8; 32])
+    requires { ⌜ (at + 32 ≤ length (now out)) × (length (now line) ≡ 32) ⌝ }
+    ensures { λ r. ⌜ now (out .exit) ≡ stored (now (out .entry)) at (now (line .entry)) ⌝ }
+{
+    for j in 0..32 {
+        out[at + j] = line[j];
+    }
+}
+
+// The lines of the keys, stored at the front of out.
+fn put_lines(keys: &[u64], out: &mut [u8])
+    requires { ⌜ length (now keys) ≤ length (now out) / 32 ⌝ }
+    ensures { λ r. ⌜ now (out .exit) ≡ front (textOf (now (keys .entry))) (now (out .entry)) ⌝ }
+{
+    for i in 0..keys.len() {
+        let line = line::line_of(keys[i]);
+        put_line(out, 32 * i, &line);
+    }
+}
+
+// The text of a list of keys, stored at the front of out.
+pub fn write(keys: &[u64], out: &mut [u8]) -> ListWritten
+    ensures { λ r. ⌜ writeAnswer r ≡ writeOf (now (keys .entry)) (length (now (out .entry))) ⌝ }
+    ensures { λ r. ⌜ now (out .exit) ≡ textThen (now (keys .entry)) (now (out .entry)) ⌝ }
+{
+    if !small_keys(keys) {
+        return ListWritten::KeyTooLarge;
+    }
+    if out.len() / 32 < keys.len() {
+        return ListWritten::ShortBuffer;
+    }
+    put_lines(keys, out);
+    ListWritten::Keys(keys.len())
+}

@@ -1,0 +1,19 @@
+-- Laws of this crate's definitions.
+-- LineLaws: a line as a value
+-- LineTextLaws: the text of such a value
+-- SaidLaws: texts put together
+-- LentLaws: what a line lends to a call
+-- StepLaws: a line of each kind
+-- RunLaws: the promise over every list of lines
+-- PlaceLaws: the part of a block before its first 0A
+-- InputLaws: the input cut into lines, in whatever blocks it arrives
+-- TurnLaws: a turn of the code
+pub mod LineLaws
+pub mod LineTextLaws
+pub mod SaidLaws
+pub mod LentLaws
+pub mod StepLaws
+pub mod RunLaws
+pub mod PlaceLaws
+pub mod InputLaws
+pub mod TurnLaws

@@ -1,0 +1,14 @@
+-- `script::line::digit_in` meets its contract. Assumes nothing.
+use native.Mathlib.Nat.{zero-add, zero-mul, add-zero}
+use borrow.Author.Needs.{needs}
+use Rattle.card.specs.Range.{number}
+use Rattle.text.specs.Form.{decimal}
+use Rattle.script.proofs.line.digit_in.Statement.{statement}
+use Rattle.script.proofs.line.digit_in.Tie as tie
+
+returns : tie.Need-returns
+unfolding decimal number
+returns c = simp (zero-mul, zero-add, add-zero)
+
+pub digit-in-spec : {M : Type 1} → statement M
+digit-in-spec = tie.close (tie.spec (λ c. search needs) returns)

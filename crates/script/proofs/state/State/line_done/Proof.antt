@@ -1,0 +1,26 @@
+-- `script::state::State::line_done` meets its contract: a line is no longer than its buffer. Assumes nothing.
+use mathlib.Core.Path.{_≡_, sym}
+use native.Mathlib.Omega.{arith}
+use borrow.Author.Needs.{needs}
+use lib.ListN.{take}
+use lib.Seq.{take-all, length-take-le}
+use Rattle.script.proofs.state.State.line_done.Statement.{statement}
+use Rattle.script.proofs.state.State.line_done.Tie as tie
+
+returns : tie.Need-returns
+returns c =
+    let a = c .before .before .before .before .before .before .before .before .args in
+    let whole : take (a .held) (a .line .now) ≡ a .line .now = take-all (a .held) (a .line .now) (omega arith) in
+    rw whole (c .before .before .step .ensures .0, c .before .before .step .ensures .1 .0)
+
+slice-aggregate-step : tie.Need-slice-aggregate-step
+slice-aggregate-step c = sym (length-take-le _ _ (omega arith))
+
+returns-2 : tie.Need-returns-2
+returns-2 c = (c .before .before .step2 .ensures .0, c .before .before .step2 .ensures .1 .0)
+
+pub line-done-spec : {M : Type 1} → statement M
+line-done-spec =
+    tie.close
+    (tie.spec
+    (λ c κs. search needs) (λ c. search needs) returns slice-aggregate-step (λ c κs. search needs) (λ c. search needs) returns-2)

@@ -1,0 +1,86 @@
+-- The input: bytes, in blocks of any size, cut into lines at 0A. "The 0A isn't counted, and the last line may lack it."
+-- Assumes nothing.
+use mathlib.Core.Bool.{cond}
+use mathlib.Core.List.{List, [], _∷_, _++_}
+use Prim.Native.Nat.{ℕ, _+_, _-_, min}
+use lib.Dec.{eqb}
+use lib.ListN.{length, getD, take, drop}
+use Rattle.card.specs.Range.{written}
+use Rattle.script.specs.Line.{lineIn}
+use Rattle.script.specs.Gate.{Gate, gateOf, after, says, saidText, endText}
+use Rattle.script.specs.declared.state.State.{State}
+
+-- ---- the lines of an input
+
+-- The whole lines, and the bytes after the last 0A.
+pub record Cut : Type 0 where
+  pub lines : List (List ℕ)
+  pub rest : List ℕ
+
+abbrev pub cutByte : Cut → ℕ → Cut
+cutByte c b = cond (eqb b 0x0A) (record { lines = c .lines ++ (c .rest ∷ []); rest = [] }) (record { lines = c .lines; rest = c .rest ++ (b ∷ []) })
+
+unfoldable pub cut : Cut → List ℕ → Cut
+cut c [] = c
+cut c (b ∷ s) = cut (cutByte c b) s
+
+-- The lines of an input: a last line without 0A counts where it has a byte.
+abbrev pub lastLine : List ℕ → List (List ℕ)
+lastLine [] = []
+lastLine (b ∷ s) = (b ∷ s) ∷ []
+
+unfoldable pub linesIn : List ℕ → List (List ℕ)
+linesIn s = let c = cut (record { lines = []; rest = [] }) s in c .lines ++ lastLine (c .rest)
+
+-- ---- the program on one byte after another
+
+-- The state, and the first bytes of the line that is not whole yet: one more than a line may have, so that a longer line is told from a whole one.
+abbrev pub mostHeld : ℕ
+mostHeld = 1025
+
+pub record Machine : Type 0 where
+  pub gate : Gate
+  pub held : List ℕ
+
+-- The same of the code's state and buffers.
+abbrev pub machineOf : State → ℕ → List ℕ → List ℕ → List ℕ → Machine
+machineOf st held cards object line = record { gate = gateOf st cards object; held = take held line }
+
+abbrev pub starts : Gate → Machine
+starts g = record { gate = g; held = [] }
+
+-- A 0A ends the line; any other byte is held, as far as there is room.
+abbrev pub feedByte : Machine → ℕ → Machine
+feedByte m b =
+    cond (eqb b 0x0A) (record { gate = after (m .gate) (lineIn (m .held)); held = [] }) (record { gate = m .gate; held = take mostHeld (m .held ++ (b ∷ [])) })
+
+abbrev pub textAt : Machine → ℕ → List ℕ
+textAt m b = cond (eqb b 0x0A) (saidText (says (m .gate) (lineIn (m .held)))) []
+
+unfoldable pub feed : Machine → List ℕ → Machine
+feed m [] = m
+feed m (b ∷ s) = feed (feedByte m b) s
+
+unfoldable pub fedText : Machine → List ℕ → List ℕ
+fedText m [] = []
+fedText m (b ∷ s) = textAt m b ++ fedText (feedByte m b) s
+
+-- At the end of the input: a line without 0A, where it has a byte.
+unfoldable pub lastGate : Machine → Gate
+lastGate m = cond (eqb (length (m .held)) 0) (m .gate) (after (m .gate) (lineIn (m .held)))
+
+unfoldable pub lastText : Machine → List ℕ
+lastText m = cond (eqb (length (m .held)) 0) [] (saidText (says (m .gate) (lineIn (m .held))))
+
+-- ---- how the code holds a line
+
+-- The part of a block that a turn takes: from a place on, to the first 0A with it, or to the end.
+unfoldable pub partFrom : List ℕ → ℕ → ℕ → List ℕ
+partFrom block from used = take (used - from) (drop from block)
+
+-- How many bytes are held once n more have come, and the buffer then: bytes past the room are dropped.
+unfoldable pub heldThen : ℕ → ℕ → ℕ
+heldThen held n = held + min n (mostHeld - held)
+
+unfoldable pub lineThen : List ℕ → ℕ → List ℕ → ℕ → ℕ → List ℕ
+lineThen line held block from n = written line held (min n (mostHeld - held)) (λ j. getD block (from + j) 0)
