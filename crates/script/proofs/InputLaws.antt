@@ -17,7 +17,7 @@ use Rattle.script.specs.Line.{lineIn}
 use Rattle.script.specs.Gate.{Gate, after, says, saidText, endText}
 use Rattle.script.specs.Run.{runLines, printed, output}
 use Rattle.script.specs.Input.{Cut, cutByte, cut, lastLine, linesIn, mostHeld, Machine, starts, feedByte, textAt, feed, fedText, lastGate, lastText, partFrom, heldThen, lineThen}
-use Rattle.script.proofs.PlaceLaws.{NoEnd, none-before, with-end}
+use Rattle.text.proofs.PlaceLaws.{NoEnd, none-before, with-end}
 
 -- ---- one block after another
 

@@ -5,7 +5,6 @@
 -- LentLaws: what a line lends to a call
 -- StepLaws: a line of each kind
 -- RunLaws: the promise over every list of lines
--- PlaceLaws: the part of a block before its first 0A
 -- InputLaws: the input cut into lines, in whatever blocks it arrives
 -- TurnLaws: a turn of the code
 pub mod LineLaws
@@ -14,6 +13,5 @@ pub mod SaidLaws
 pub mod LentLaws
 pub mod StepLaws
 pub mod RunLaws
-pub mod PlaceLaws
 pub mod InputLaws
 pub mod TurnLaws

@@ -3,12 +3,12 @@ use crate::state::Said;
 use crate::state::TEXT;
 use crate::state::Text;
 use session::state::Session;
+use text::bytes;
 use text::hex;
 ghost use mathlib.Core.Path.{_≡_};
 ghost use mathlib.Core.List.{[], _++_};
 ghost use Prim.Native.Nat.{_+_, _≤_};
 ghost use lib.ListN.{length};
-ghost use Rattle.card.specs.Range.{stored};
 ghost use Rattle.script.specs.Gate.{textIn, TextFits, unprinted, refusedText, saidText, stampText, endText};
 ghost use Rattle.script.specs.Run.{EndKept};
 
@@ -23,16 +23,6 @@ pub(crate) fn no_text() -> Text
     }
 }
 
-// The bytes s stored in a text's bytes from place `at` on.
-fn put(bytes: &mut [u8], at: usize, s: &[u8])
-    requires { ⌜ at + length (now s) ≤ length (now bytes) ⌝ }
-    ensures { λ r. ⌜ now (bytes .exit) ≡ stored (now (bytes .entry)) at (now (s .entry)) ⌝ }
-{
-    for i in 0..s.len() {
-        bytes[at + i] = s[i];
-    }
-}
-
 impl Text {
     // The text with s after it.
     fn with(self, s: &[u8]) -> Text
@@ -42,7 +32,7 @@ impl Text {
     {
         let mut bytes = self.bytes;
         let len = self.len;
-        put(&mut bytes, len, s);
+        bytes::store(&mut bytes, len, s);
         Text {
             bytes,
             len: len + s.len(),

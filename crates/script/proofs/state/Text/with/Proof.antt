@@ -5,6 +5,7 @@ use mathlib.Core.Path.{refl, ap, _∙_}
 use mathlib.Core.List.{List}
 use Prim.Native.Nat.{ℕ, _+_, _≤_}
 use lib.ListN.{length, take}
+use Rattle.text.proofs.PlaceLaws.{store-fits}
 use Rattle.script.proofs.SaidLaws.{stored-after, length-stored}
 use Rattle.script.proofs.state.Text.with.Statement.{statement}
 use Rattle.script.proofs.state.Text.with.Tie as tie
@@ -15,8 +16,8 @@ returns c =
     let b = a .self .bytes in
     let s = a .s .now in
     let n = a .self .len in
-    let e = c .before .put .ensures in
     let h : n + length s ≤ length b = omega arith in
+    let e = c .before .store .ensures ∙ store-fits b s n h in
     (ap (λ (l : List ℕ). take (n + length s) l) e ∙ stored-after b s n h, (ap length e ∙ length-stored b s n h ∙ c .before .before .before .before .before .pre .0, refl))
 
 pub with-spec : {M : Type 1} → statement M

@@ -1,4 +1,4 @@
--- The bytes of a list before the first 0A: none of them is 0A, and the byte after them, where there is one, is.
+-- The bytes of a list before the first 0A: none of them is 0A, and the byte after them, where there is one, is. And bytes stored from a place on.
 -- Assumes nothing.
 use mathlib.Core.Path.{_≡_, refl, ap, _∙_}
 use mathlib.Core.Bool.{Bool, true, false, cond}
@@ -6,11 +6,12 @@ use mathlib.Core.List.{List, [], _∷_, _++_}
 use Prim.Native.Nat.{ℕ, suc, _+_, _≤_, _<_, zero-le, suc-le-suc}
 use native.Mathlib.Nat.{not-suc-le-zero, le-of-suc-le-suc}
 use native.Mathlib.Numerals.{add-one}
-use borrow.Author.Tests.{eqb-true}
+use borrow.Author.Tests.{eqb-true, le-leb, lt-leb}
 use lib.Dec.{eqb}
 use lib.ListN.{length, getD, take}
 use lib.Seq.{take-suc}
-use Rattle.text.specs.Place.{countBefore}
+use Rattle.card.specs.Range.{stored}
+use Rattle.text.specs.Place.{countBefore, storedWhere}
 
 -- no byte is 0A
 abbrev pub NoEnd : List ℕ → Type 0
@@ -44,3 +45,14 @@ pub with-end : (s : List ℕ) → countBefore 0x0A s < length s → take (countB
 with-end s h =
     ap (λ (n : ℕ). take n s) (add-one (countBefore 0x0A s)) ∙ take-suc s (countBefore 0x0A s) 0 h
     ∙ ap (λ (b : ℕ). take (countBefore 0x0A s) s ++ (b ∷ [])) (end-after s h)
+
+-- ---- bytes stored from a place on
+
+-- all of them fit, or not
+pub store-fits : (l s : List ℕ) (at : ℕ) → at + length s ≤ length l → storedWhere l at s ≡ stored l at s
+unfolding storedWhere
+store-fits l s at h = rw (le-leb (at + length s) (length l) h)
+
+pub store-not : (l s : List ℕ) (at : ℕ) → length l < at + length s → storedWhere l at s ≡ l
+unfolding storedWhere
+store-not l s at h = rw (lt-leb (at + length s) (length l) h)

@@ -1,0 +1,3 @@
+-- What the contracts of this crate mean.
+-- Stream: what was fed to the program
+pub mod Stream

@@ -1,0 +1,18 @@
+-- What was fed to the program, and what is gathered to be written.
+-- Assumes nothing.
+use mathlib.Core.Path.{_≡_}
+use mathlib.Core.Bool.{cond}
+use mathlib.Core.List.{List, _++_}
+use Prim.Native.Nat.{ℕ}
+use lib.Dec.{leb}
+use lib.ListN.{take}
+use Rattle.script.specs.Input.{Machine, feed}
+
+-- The second state is what the first becomes by some bytes: those that were read.
+pub record Fed (m n : Machine) : Type 0 where
+  pub bytes : List ℕ
+  pub is : n ≡ feed m bytes
+
+-- What is gathered once a text has come: it follows what was gathered before, or that was written and it stands alone.
+unfoldable pub gatheredThen : List ℕ → ℕ → List ℕ → List ℕ
+gatheredThen out gathered text = cond (leb gathered 3997) (take gathered out ++ text) text

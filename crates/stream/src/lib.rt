@@ -1,0 +1,208 @@
+// The gate program on a file descriptor: its bytes are read in blocks to the end and handed to the crate script, and what that prints goes to standard output.
+//
+// No contract can say what is read or written. What these contracts say is of the program's state: whatever was read, it is the state that the definitions give
+// for those bytes.
+use script::input::HELD;
+use script::said;
+use script::state::CARDS;
+use script::state::State;
+use script::state::TEXT;
+use script::state::Text;
+use script::step;
+use text::bytes;
+ghost use mathlib.Core.Path.{_≡_};
+ghost use mathlib.Core.Bool.{true};
+ghost use Prim.Native.Nat.{_+_, _≤_, _<_};
+ghost use lib.ListN.{length, take};
+ghost use Rattle.script.specs.Gate.{gateOf, textIn, TextFits};
+ghost use Rattle.script.specs.Input.{machineOf, feed, lastGate, partFrom};
+ghost use Rattle.stream.specs.Stream.{Fed, gatheredThen};
+
+// How much text is gathered before it is written.
+const GATHERED: usize = 4096;
+
+// The bytes of an object buffer: document 01's 8,192.
+const OBJECT: usize = 8192;
+
+// The program at some place of a block: its state, how many bytes of an unfinished line are held, how far the block is used, how many bytes of text are
+// gathered, and whether it goes on: standard output takes what is written to it, and the input has not ended.
+struct Progress {
+    state: State,
+    held: usize,
+    used: usize,
+    gathered: usize,
+    more: bool,
+}
+
+// How many bytes of text are gathered, and whether standard output took what was written.
+struct Gathered {
+    count: usize,
+    taken: bool,
+}
+
+// The text gathered after what was gathered before; that is written first where the two might not fit.
+fn gather(out: &mut [u8], gathered: usize, text: Text) -> Gathered
+    requires { ⌜ (gathered ≤ length (now out)) × (length (now out) ≡ 4096) × TextFits text 0 ⌝ }
+    ensures holds { λ r. ⌜ take (r .count) (now (out .exit)) ≡ gatheredThen (now (out .entry)) gathered (textIn text) ⌝ }
+    ensures inside { λ r. ⌜ r .count ≤ 4096 ⌝ }
+{
+    let said = text.bytes;
+    let len = text.len;
+    if gathered <= out.len() - TEXT {
+        bytes::store(out, gathered, &said[..len]);
+        return Gathered {
+            count: gathered + len,
+            taken: true,
+        };
+    }
+    let taken = io::write_all(1, &out[..gathered]);
+    bytes::store(out, 0, &said[..len]);
+    Gathered { count: len, taken }
+}
+
+// The next part of a block: one line, where it ends in the block.
+fn one_turn(
+    at: Progress,
+    cards: &mut [u64; CARDS],
+    object: &mut [u8],
+    line: &mut [u8; HELD],
+    out: &mut [u8],
+    block: &[u8],
+) -> Progress
+    requires { ⌜ (at .gathered ≤ length (now out)) × (length (now out) ≡ 4096) ⌝ }
+    ensures state { λ r. ⌜ machineOf (r .state) (r .held) (now (cards .exit)) (now (object .exit)) (now (line .exit)) ≡ feed (machineOf (at .state) (at .held) (now (cards .entry)) (now (object .entry)) (now (line .entry))) (partFrom (now (block .entry)) (at .used) (r .used)) ⌝ }
+    ensures onward { λ r. ⌜ (at .used < length (now (block .entry)) → (at .used < r .used) × (r .used ≤ length (now (block .entry)))) ⌝ }
+    ensures gathered { λ r. ⌜ r .gathered ≤ 4096 ⌝ }
+{
+    let state = at.state;
+    let turned = state.turn(at.held, cards, object, line, block, at.used);
+    let text = turned.text;
+    let next = gather(out, at.gathered, text);
+    let state = turned.state;
+    Progress {
+        state,
+        held: turned.held,
+        used: turned.used,
+        gathered: next.count,
+        more: next.taken,
+    }
+}
+
+// The whole of a block, or the part of it before standard output took no more.
+fn run_block(
+    start: Progress,
+    cards: &mut [u64; CARDS],
+    object: &mut [u8],
+    line: &mut [u8; HELD],
+    out: &mut [u8],
+    block: &[u8],
+) -> Progress
+    requires { ⌜ (start .used ≡ 0) × (start .gathered ≤ length (now out)) × (length (now out) ≡ 4096) ⌝ }
+    ensures state { λ r. ⌜ machineOf (r .state) (r .held) (now (cards .exit)) (now (object .exit)) (now (line .exit)) ≡ feed (machineOf (start .state) (start .held) (now (cards .entry)) (now (object .entry)) (now (line .entry))) (take (r .used) (now (block .entry))) ⌝ }
+    ensures whole { λ r. ⌜ (r .more ≡ true → r .used ≡ length (now (block .entry))) ⌝ }
+    ensures gathered { λ r. ⌜ r .gathered ≤ 4096 ⌝ }
+{
+    let mut at = start;
+    while (at.used < block.len()) & at.more {
+        at = one_turn(at, cards, object, line, out, block);
+    }
+    at
+}
+
+// What is gathered is written.
+fn written(at: Progress, out: &[u8]) -> Progress
+    requires { ⌜ at .gathered ≤ length (now out) ⌝ }
+    ensures { λ r. ⌜ (r .state ≡ at .state) × (r .held ≡ at .held) × (r .gathered ≡ 0) ⌝ }
+{
+    let gathered = at.gathered;
+    let taken = io::write_all(1, &out[..gathered]);
+    let mut done = at;
+    done.gathered = 0;
+    done.more = at.more & taken;
+    done
+}
+
+// One block that is read. What is gathered is written then, so that whoever sent a line has its answer before the next is waited for.
+fn one_block(
+    fd: i32,
+    start: Progress,
+    cards: &mut [u64; CARDS],
+    object: &mut [u8],
+    line: &mut [u8; HELD],
+    out: &mut [u8],
+) -> Progress
+    requires { ⌜ (start .gathered ≤ length (now out)) × (length (now out) ≡ 4096) ⌝ }
+    ensures state { λ r. ⌜ Fed (machineOf (start .state) (start .held) (now (cards .entry)) (now (object .entry)) (now (line .entry))) (machineOf (r .state) (r .held) (now (cards .exit)) (now (object .exit)) (now (line .exit))) ⌝ }
+    ensures gathered { λ r. ⌜ r .gathered ≡ 0 ⌝ }
+{
+    let mut input = io::large_buffer();
+    let got = libc::read(fd, &mut input);
+    let n = io::count(got, &input);
+    let mut at = start;
+    at.used = 0;
+    at.more = 0 < n;
+    let done = run_block(at, cards, object, line, out, &input[..n]);
+    written(done, out)
+}
+
+// Blocks to the end of the input. A proved loop has to end, and nothing says that the input does: the turns are counted down from a number that no run uses up.
+fn run_input(
+    fd: i32,
+    start: Progress,
+    cards: &mut [u64; CARDS],
+    object: &mut [u8],
+    line: &mut [u8; HELD],
+    out: &mut [u8],
+) -> Progress
+    requires { ⌜ (start .gathered ≤ length (now out)) × (length (now out) ≡ 4096) ⌝ }
+    ensures state { λ r. ⌜ Fed (machineOf (start .state) (start .held) (now (cards .entry)) (now (object .entry)) (now (line .entry))) (machineOf (r .state) (r .held) (now (cards .exit)) (now (object .exit)) (now (line .exit))) ⌝ }
+{
+    let mut at = start;
+    let mut turns = u64::MAX;
+    while (turns > 0) & at.more {
+        turns -= 1;
+        at = one_block(fd, at, cards, object, line, out);
+    }
+    at
+}
+
+// A text, written at once.
+fn print(text: Text)
+    requires { ⌜ TextFits text 0 ⌝ }
+{
+    let bytes = text.bytes;
+    let len = text.len;
+    io::write_all(1, &bytes[..len]);
+}
+
+// The end of the input: a last line without 0A.
+fn last_line(at: Progress, cards: &mut [u64; CARDS], object: &mut [u8], line: &[u8; HELD]) -> State
+    ensures { λ r. ⌜ gateOf r (now (cards .exit)) (now (object .exit)) ≡ lastGate (machineOf (at .state) (at .held) (now (cards .entry)) (now (object .entry)) (now (line .entry))) ⌝ }
+{
+    let state = at.state;
+    let last = state.last(at.held, cards, object, line);
+    let text = last.text;
+    print(text);
+    last.state
+}
+
+// The program on the file descriptor fd.
+pub fn run(fd: i32) {
+    let mut cards = [0u64; CARDS];
+    let mut object = [0u8; OBJECT];
+    let mut line = [0u8; HELD];
+    let mut out = [0u8; GATHERED];
+    let state = step::start();
+    let start = Progress {
+        state,
+        held: 0,
+        used: 0,
+        gathered: 0,
+        more: true,
+    };
+    let end = run_input(fd, start, &mut cards, &mut object, &mut line, &mut out);
+    let done = last_line(end, &mut cards, &mut object, &line);
+    let session = done.session;
+    let text = said::end_text(session);
+    print(text);
+}

@@ -1,0 +1,20 @@
+-- `text::bytes::store` meets its contract: two tests say whether the bytes fit. Assumes nothing.
+use mathlib.Core.Path.{sym, _∙_}
+use native.Mathlib.Omega.{arith}
+use borrow.Author.Needs.{needs}
+use Rattle.text.proofs.PlaceLaws.{store-fits, store-not}
+use Rattle.text.proofs.bytes.store.Statement.{statement}
+use Rattle.text.proofs.bytes.store.Tie as tie
+
+returns : tie.Need-returns
+returns c = let a = c .before .before .before .args in sym (store-not (a .out .now) (a .s .now) (a .at) (omega arith))
+
+returns-2 : tie.Need-returns-2
+returns-2 c = let a = c .before .before .before .before .args in sym (store-not (a .out .now) (a .s .now) (a .at) (omega arith))
+
+returns-3 : tie.Need-returns-3
+returns-3 c = let a = c .before .before .before .before .before .before .before .before .args in c .before .before .put .ensures ∙ sym (store-fits (a .out .now) (a .s .now) (a .at) (omega arith))
+
+pub store-spec : {M : Type 1} → statement M
+store-spec =
+    tie.close (tie.spec returns (λ c. search needs) returns-2 (λ c κs. search needs) (λ c. search needs) returns-3)
