@@ -8,11 +8,12 @@ use Prim.Native.Nat.{ℕ, suc, _+_, _-_, _/_, _%_, _^_, _≤_, _<_}
 use native.Mathlib.Nat.{mod-eq-of-lt, le-refl, eq-or-lt-of-le}
 use native.Mathlib.Numerals.{add-one}
 use native.Mathlib.Omega.{arith}
-use borrow.Author.Tests.{eqb-true, eqb-false, ltb-true, le-leb, eq-eqb, ne-eqb}
+use borrow.Author.Tests.{eqb-true, eqb-false, ltb-true, leb-true, le-leb, eq-eqb, ne-eqb}
 use lib.Dec.{eqb, leb, ltb, lit<}
 use lib.ListN.{length, getD, take, length-append, List·getD-append}
 use lib.Seq.{getD-at, take-at}
 use Rattle.card.specs.Range.{listOf, run, all}
+use Rattle.card.specs.Fascn.{decimalAt, keyOf}
 use Rattle.card.proofs.RangeLaws.{all-at, all-ext, getD-listOf, listOf-is, listOf-ext}
 use Rattle.card.proofs.NumberLaws.{number-ext, number-lt, number-digit, number-mod}
 use Rattle.text.specs.Form.{between, betweenAt}
@@ -221,3 +222,15 @@ module _ (s : List ℕ) (good : goodCard s ≡ true) where
 
   pub card-small : keyIn s < keyLimit
   card-small = rw (key-card-line s card-length) at (key-small (ended s 0x0A) as-line)
+
+-- ---- the line of a card's own key
+
+-- its digits are the first 16 of the FASC-N
+pub card-digit : (d : List ℕ) → all 32 (decimalAt d) ≡ true → (k : ℕ) → k < 16 → digitOf (keyOf d) k ≡ 48 + getD d k 0
+unfolding digitOf keyOf decimalAt
+card-digit d good k h =
+    let e : 15 - k ≡ 16 - suc k = omega arith in
+    rw e (ap (λ (x : ℕ). 48 + x) (number-digit 10 16 (λ (i : ℕ). getD d i 0) small k h))
+  where
+    small : (i : ℕ) → i < 16 → getD d i 0 < 10
+    small i l = let nine = leb-true (getD d i 0) 9 (all-at (decimalAt d) 32 good i (omega arith)) in omega arith

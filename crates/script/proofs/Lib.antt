@@ -1,4 +1,5 @@
 -- Laws of this crate's definitions.
+-- CancelledLaws: the list as text and the list that the session searches
 -- LineLaws: a line as a value
 -- LineTextLaws: the text of such a value
 -- SaidLaws: texts put together
@@ -7,6 +8,7 @@
 -- RunLaws: the promise over every list of lines
 -- InputLaws: the input cut into lines, in whatever blocks it arrives
 -- TurnLaws: a turn of the code
+pub mod CancelledLaws
 pub mod LineLaws
 pub mod LineTextLaws
 pub mod SaidLaws
