@@ -1,14 +1,17 @@
 -- A turn of the code, and the end of the input: what the functions give is what the definitions say of the bytes. Assumes nothing.
 use mathlib.Core.Path.{_≡_, sym, ap, ap₂, _∙_}
 use mathlib.Core.List.{List, []}
-use Prim.Native.Nat.{ℕ, _+_, _-_, _≤_, _<_}
+use Prim.Native.Nat.{ℕ, _+_, _-_, _≤_, _<_, min}
 use native.Mathlib.Omega.{arith}
-use borrow.Author.Tests.{eq-eqb, ne-eqb}
-use lib.ListN.{length, take, drop}
+use native.Mathlib.Nat.{add-zero, min-eq-left}
+use borrow.Author.Tests.{eq-eqb, ne-eqb, lt-ltb, le-ltb}
+use lib.ListN.{length, getD, take, drop, drop-of-length-le}
+use Rattle.card.proofs.RangeLaws.{written-none}
 use Rattle.text.specs.Place.{countBefore}
 use Rattle.script.specs.Line.{lineIn}
-use Rattle.script.specs.Gate.{Gate, after, says, saidText}
-use Rattle.script.specs.Input.{Machine, mostHeld, feed, fedText, lastGate, lastText, partFrom, heldThen, lineThen}
+use Rattle.script.specs.Gate.{Gate, after, says, cardsThen, saidText}
+use Rattle.script.specs.Input.{Machine, mostHeld, feed, fedText, lastGate, lastText, partFrom, heldThen, lineThen, placesThen}
+use Rattle.script.specs.declared.state.State.{State}
 use Rattle.script.specs.declared.state.Said.{Said}
 use Rattle.script.proofs.InputLaws.{heldTo, turn-run, turn-line}
 
@@ -47,3 +50,27 @@ none-last m e = (rw (eq-eqb (length (m .held)) 0 e), rw (eq-eqb (length (m .held
 pub line-last : (m : Machine) → (length (m .held) ≡ 0 → ⊥) → (after (m .gate) (lineIn (m .held)) ≡ lastGate m) × (saidText (says (m .gate) (lineIn (m .held))) ≡ lastText m)
 unfolding lastGate lastText
 line-last m h = (rw (ne-eqb (length (m .held)) 0 h), rw (ne-eqb (length (m .held)) 0 h))
+
+-- ---- the places
+
+-- nothing is left of the block
+pub none-places : (st : State) (held : ℕ) (cards line block : List ℕ) (from : ℕ) → length block ≤ from → (from, held, line, (st .cards, cards)) ≡ placesThen st held cards line block from
+unfolding placesThen countBefore heldThen lineThen
+none-places st held cards line block from h =
+    let n : drop from block ≡ [] = drop-of-length-le block h in
+    let z : from + 0 - from ≡ 0 = omega arith in
+    let k : min 0 (mostHeld - held) ≡ 0 = min-eq-left (omega arith) in
+    rw (n, z, le-ltb (from + 0) (length block) (omega arith), k, written-none line held (λ j. getD block (from + j) 0), add-zero from, add-zero held)
+
+-- the block ends first
+pub run-places : (st : State) (held n : ℕ) (cards line left block : List ℕ) (from end : ℕ) → end ≡ from + countBefore 0x0A (drop from block) → length block ≤ end
+    → n ≡ heldThen held (end - from) → left ≡ lineThen line held block from (end - from) → (end, n, left, (st .cards, cards)) ≡ placesThen st held cards line block from
+unfolding placesThen
+run-places st held n cards line left block from end e h p q = rw (p, q, ← e, le-ltb end (length block) h)
+
+-- a 0A ends the line
+pub line-places : (st : State) (held n : ℕ) (cards line left block : List ℕ) (from end : ℕ) (after : ℕ × List ℕ) → end ≡ from + countBefore 0x0A (drop from block) → end < length block
+    → n ≡ heldThen held (end - from) → left ≡ lineThen line held block from (end - from) → after ≡ cardsThen st cards (lineIn (take n left))
+    → (end + 1, 0, left, after) ≡ placesThen st held cards line block from
+unfolding placesThen
+line-places st held n cards line left block from end after e h p q r = rw (r, p, q, ← e, lt-ltb end (length block) h)

@@ -76,13 +76,13 @@ says g (GateLine.answer bytes) = saidBy (answerOf (commanded g) (g .object) byte
 says g (GateLine.verdict kind value fascn) = saidBy (verdictOf (g .session) kind value fascn .0)
 says g GateLine.bad = Bad
 
--- The cards' buffer then: a card that is kept is written after those before it, and every other place stays.
-unfoldable pub cardsThen : State → List ℕ → GateLine → List ℕ
-cardsThen st cards (GateLine.card key) = cond (ltb (st .cards) mostCards) (set cards (st .cards) key) cards
-cardsThen st cards (GateLine.opening mode date aid) = cards
-cardsThen st cards (GateLine.answer bytes) = cards
-cardsThen st cards (GateLine.verdict kind value fascn) = cards
-cardsThen st cards GateLine.bad = cards
+-- The count of cards and their buffer then: a card that is kept is written after those before it, and every other place stays.
+unfoldable pub cardsThen : State → List ℕ → GateLine → ℕ × List ℕ
+cardsThen st cards (GateLine.card key) = cond (ltb (st .cards) mostCards) (st .cards + 1, set cards (st .cards) key) (st .cards, cards)
+cardsThen st cards (GateLine.opening mode date aid) = (st .cards, cards)
+cardsThen st cards (GateLine.answer bytes) = (st .cards, cards)
+cardsThen st cards (GateLine.verdict kind value fascn) = (st .cards, cards)
+cardsThen st cards GateLine.bad = (st .cards, cards)
 
 -- ---- text
 

@@ -3,11 +3,12 @@
 use mathlib.Core.Bool.{cond}
 use mathlib.Core.List.{List, [], _∷_, _++_}
 use Prim.Native.Nat.{ℕ, _+_, _-_, min}
-use lib.Dec.{eqb}
+use lib.Dec.{eqb, ltb}
 use lib.ListN.{length, getD, take, drop}
 use Rattle.card.specs.Range.{written}
+use Rattle.text.specs.Place.{countBefore}
 use Rattle.script.specs.Line.{lineIn}
-use Rattle.script.specs.Gate.{Gate, gateOf, after, says, saidText, endText}
+use Rattle.script.specs.Gate.{Gate, gateOf, after, says, cardsThen, saidText}
 use Rattle.script.specs.declared.state.State.{State}
 
 -- ---- the lines of an input
@@ -84,3 +85,16 @@ heldThen held n = held + min n (mostHeld - held)
 
 unfoldable pub lineThen : List ℕ → ℕ → List ℕ → ℕ → ℕ → List ℕ
 lineThen line held block from n = written line held (min n (mostHeld - held)) (λ j. getD block (from + j) 0)
+
+-- The places after a turn from place `from` of a block on, to the first 0A or to the end: how far the block is used, how many bytes are held, the line's buffer, and the
+-- cards with their count. A 0A ends the line, which is carried out, and nothing is held.
+unfoldable pub placesThen : State → ℕ → List ℕ → List ℕ → List ℕ → ℕ → ℕ × ℕ × List ℕ × (ℕ × List ℕ)
+placesThen st held cards line block from =
+    let end = from + countBefore 0x0A (drop from block) in
+    let n = heldThen held (end - from) in
+    let then = lineThen line held block from (end - from) in
+    cond (ltb end (length block)) (end + 1, 0, then, cardsThen st cards (lineIn (take n then))) (end, n, then, (st .cards, cards))
+
+-- The cards with their count after the end of the input.
+unfoldable pub lastCards : State → ℕ → List ℕ → List ℕ → ℕ × List ℕ
+lastCards st held cards line = cond (eqb held 0) (st .cards, cards) (cardsThen st cards (lineIn (take held line)))

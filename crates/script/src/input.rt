@@ -9,8 +9,8 @@ ghost use mathlib.Core.Path.{_≡_};
 ghost use Prim.Native.Nat.{_+_, _-_, _≤_, _<_};
 ghost use lib.ListN.{length, take};
 ghost use Rattle.script.specs.Line.{lineIn};
-ghost use Rattle.script.specs.Gate.{gateOf, after, says, textIn, TextFits};
-ghost use Rattle.script.specs.Input.{machineOf, feed, fedText, lastGate, lastText, partFrom, heldThen, lineThen};
+ghost use Rattle.script.specs.Gate.{gateOf, after, says, cardsThen, textIn, TextFits};
+ghost use Rattle.script.specs.Input.{machineOf, feed, fedText, lastGate, lastText, partFrom, heldThen, lineThen, placesThen, lastCards};
 
 // How many bytes of a line are held: one more than a line may have, so that a longer line is told from a whole one.
 pub const HELD: usize = 1025;
@@ -20,6 +20,12 @@ pub struct Turned {
     pub state: State,
     pub held: usize,
     pub used: usize,
+    pub text: Text,
+}
+
+// The state after the end of the input, and what is printed for a last line without 0A.
+pub struct Ended {
+    pub state: State,
     pub text: Text,
 }
 
@@ -58,6 +64,7 @@ impl State {
     ) -> Stepped
         ensures { λ r. ⌜ gateOf (r .state) (now (cards .exit)) (now (object .exit)) ≡ after (gateOf self (now (cards .entry)) (now (object .entry))) (lineIn (take held (now (line .entry)))) ⌝ }
         ensures { λ r. ⌜ r .said ≡ says (gateOf self (now (cards .entry)) (now (object .entry))) (lineIn (take held (now (line .entry)))) ⌝ }
+        ensures { λ r. ⌜ (r .state .cards, now (cards .exit)) ≡ cardsThen self (now (cards .entry)) (lineIn (take held (now (line .entry)))) ⌝ }
     {
         if line.len() < held {
             return self.step(cards, object, line);
@@ -77,6 +84,7 @@ impl State {
     ) -> Turned
         ensures state { λ r. ⌜ machineOf (r .state) (r .held) (now (cards .exit)) (now (object .exit)) (now (line .exit)) ≡ feed (machineOf self held (now (cards .entry)) (now (object .entry)) (now (line .entry))) (partFrom (now (block .entry)) from (r .used)) ⌝ }
         ensures prints { λ r. ⌜ textIn (r .text) ≡ fedText (machineOf self held (now (cards .entry)) (now (object .entry)) (now (line .entry))) (partFrom (now (block .entry)) from (r .used)) ⌝ }
+        ensures places { λ r. ⌜ (r .used, r .held, now (line .exit), (r .state .cards, now (cards .exit))) ≡ placesThen self held (now (cards .entry)) (now (line .entry)) (now (block .entry)) from ⌝ }
         ensures goes_on { λ r. ⌜ (from < length (now (block .entry)) → (from < r .used) × (r .used ≤ length (now (block .entry)))) ⌝ }
         ensures fits { λ r. ⌜ TextFits (r .text) 0 ⌝ }
     {
@@ -120,29 +128,20 @@ impl State {
         cards: &mut [u64; CARDS],
         object: &mut [u8],
         line: &[u8; HELD],
-    ) -> Turned
+    ) -> Ended
         ensures state { λ r. ⌜ gateOf (r .state) (now (cards .exit)) (now (object .exit)) ≡ lastGate (machineOf self held (now (cards .entry)) (now (object .entry)) (now (line .entry))) ⌝ }
         ensures prints { λ r. ⌜ textIn (r .text) ≡ lastText (machineOf self held (now (cards .entry)) (now (object .entry)) (now (line .entry))) ⌝ }
+        ensures places { λ r. ⌜ (r .state .cards, now (cards .exit)) ≡ lastCards self held (now (cards .entry)) (now (line .entry)) ⌝ }
         ensures fits { λ r. ⌜ TextFits (r .text) 0 ⌝ }
     {
         if held == 0 {
             let text = said::no_text();
-            return Turned {
-                state: self,
-                held: 0,
-                used: 0,
-                text,
-            };
+            return Ended { state: self, text };
         }
         let done = self.line_done(cards, object, line, held);
         let state = done.state;
         let said = done.said;
         let text = said.text();
-        Turned {
-            state,
-            held: 0,
-            used: 0,
-            text,
-        }
+        Ended { state, text }
     }
 }

@@ -55,7 +55,7 @@ impl State {
         requires { ⌜ length (now cards) ≡ mostCards ⌝ }
         ensures { λ r. ⌜ gateOf (r .state) (now (cards .exit)) [] ≡ after (gateOf self (now (cards .entry)) []) (GateLine.card key) ⌝ }
         ensures { λ r. ⌜ r .said ≡ says (gateOf self (now (cards .entry)) []) (GateLine.card key) ⌝ }
-        ensures { λ r. ⌜ now (cards .exit) ≡ cardsThen self (now (cards .entry)) (GateLine.card key) ⌝ }
+        ensures { λ r. ⌜ (r .state .cards, now (cards .exit)) ≡ cardsThen self (now (cards .entry)) (GateLine.card key) ⌝ }
     {
         let n = self.cards;
         if n < CARDS {
@@ -131,7 +131,7 @@ impl State {
     pub fn step(self, cards: &mut [u64; CARDS], object: &mut [u8], s: &[u8]) -> Stepped
         ensures { λ r. ⌜ gateOf (r .state) (now (cards .exit)) (now (object .exit)) ≡ after (gateOf self (now (cards .entry)) (now (object .entry))) (lineIn (now (s .entry))) ⌝ }
         ensures { λ r. ⌜ r .said ≡ says (gateOf self (now (cards .entry)) (now (object .entry))) (lineIn (now (s .entry))) ⌝ }
-        ensures { λ r. ⌜ now (cards .exit) ≡ cardsThen self (now (cards .entry)) (lineIn (now (s .entry))) ⌝ }
+        ensures { λ r. ⌜ (r .state .cards, now (cards .exit)) ≡ cardsThen self (now (cards .entry)) (lineIn (now (s .entry))) ⌝ }
     {
         let kind = line::read(s);
         match kind {

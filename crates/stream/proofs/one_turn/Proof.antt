@@ -4,10 +4,10 @@ use Rattle.stream.proofs.one_turn.Statement.{statement}
 use Rattle.stream.proofs.one_turn.Tie as tie
 
 gather-requires : tie.Need-gather-requires
-gather-requires c κs = (c .before .before .before .before .before .before .before .before .before .before .before .before .pre .0, c .before .before .before .before .before .before .before .before .before .before .before .before .pre .1, c .before .before .before .before .turn .ensures .1 .1 .1)
+gather-requires c κs = (c .before .before .before .before .before .before .before .before .before .before .before .before .pre .0, c .before .before .before .before .before .before .before .before .before .before .before .before .pre .1, c .before .before .before .before .turn .ensures .1 .1 .1 .1)
 
 returns : tie.Need-returns
-returns c = (c .before .before .before .before .before .before .before .before .turn .ensures .0, (c .before .before .before .before .before .before .before .before .turn .ensures .1 .1 .0, c .before .before .before .gather .ensures .1))
+returns c = (c .before .before .before .before .before .before .before .before .turn .ensures .0, (c .before .before .before .before .before .before .before .before .turn .ensures .1 .1 .1 .0, c .before .before .before .gather .ensures .1))
 
 pub one-turn-spec : {M : Type 1} → statement M
 one-turn-spec =

@@ -2,26 +2,29 @@
 use mathlib.Core.Path.{_≡_, ap, _∙_}
 use native.Mathlib.Omega.{arith}
 use borrow.Author.Needs.{needs}
+use borrow.Author.Tests.{eq-eqb, ne-eqb}
 use lib.ListN.{length, take, length-take}
 use Rattle.script.specs.Gate.{saidText}
-use Rattle.script.specs.Input.{Machine, machineOf}
+use Rattle.script.specs.Input.{Machine, machineOf, lastCards}
 use Rattle.script.proofs.TurnLaws.{none-last, line-last}
 use Rattle.script.proofs.state.State.last.Statement.{statement}
 use Rattle.script.proofs.state.State.last.Tie as tie
 
 returns : tie.Need-returns
+unfolding lastCards
 returns c =
     let a = c .before .before .before .args in
     let m : Machine = machineOf (a .self) (a .held) (a .cards .now) (a .object .now) (a .line .now) in
     let e = none-last m (omega (arith, length-take (a .held) (a .line .now), c .before .if1 .taken)) in
-    (e .0, (c .no-text .ensures .0 ∙ e .1, c .no-text .ensures .1))
+    (e .0, (c .no-text .ensures .0 ∙ e .1, (rw (eq-eqb _ _ (c .before .if1 .taken)), c .no-text .ensures .1)))
 
 returns-2 : tie.Need-returns-2
+unfolding lastCards
 returns-2 c =
     let a = c .before .before .before .before .before .before .before .before .before .before .args in
     let m : Machine = machineOf (a .self) (a .held) (a .cards .now) (a .object .now) (a .line .now) in
     let e = line-last m (λ (z : length (take (a .held) (a .line .now)) ≡ 0). omega (arith, length-take (a .held) (a .line .now), c .before .before .before .before .before .before .before .before .if1 .left, z)) in
-    (c .before .before .before .before .line-done .ensures .0 ∙ e .0, (c .text .ensures .0 ∙ ap saidText (c .before .before .before .before .line-done .ensures .1) ∙ e .1, c .text .ensures .1))
+    (c .before .before .before .before .line-done .ensures .0 ∙ e .0, (c .text .ensures .0 ∙ ap saidText (c .before .before .before .before .line-done .ensures .1 .0) ∙ e .1, (rw (ne-eqb _ _ (c .before .before .before .before .before .before .before .before .if1 .left)) (c .before .before .before .before .line-done .ensures .1 .1), c .text .ensures .1)))
 
 pub last-spec : {M : Type 1} → statement M
 last-spec =

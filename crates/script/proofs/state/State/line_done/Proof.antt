@@ -11,13 +11,13 @@ returns : tie.Need-returns
 returns c =
     let a = c .before .before .before .before .before .before .before .before .args in
     let whole : take (a .held) (a .line .now) ≡ a .line .now = take-all (a .held) (a .line .now) (omega arith) in
-    rw whole (c .before .before .step .ensures .0, c .before .before .step .ensures .1 .0)
+    rw whole (c .before .before .step .ensures)
 
 slice-aggregate-step : tie.Need-slice-aggregate-step
 slice-aggregate-step c = sym (length-take-le _ _ (omega arith))
 
 returns-2 : tie.Need-returns-2
-returns-2 c = (c .before .before .step2 .ensures .0, c .before .before .step2 .ensures .1 .0)
+returns-2 c = c .before .before .step2 .ensures
 
 pub line-done-spec : {M : Type 1} → statement M
 line-done-spec =

@@ -50,7 +50,7 @@ returns-3 c =
     let r = c .before .before .answer-line in
     steps-read (a .self) (r .result .state) (a .cards .now) (a .cards .now) (a .object .now) _ (a .s .now) (r .result .said) _ _ _ (c .before .before .before .before .before .before .before .before .before .read .ensures .0) (c .before .before .before .before .before .before .before .enum-told .given .1)
     (ap (λ (h : List ℕ). GateLine.answer (bytesIn h)) (sym (c .before .before .before .hex-from2 .ensures)))
-    (answer-steps (a .self) (r .result .state) (a .cards .now) (a .object .now) _ _ _ (r .ensures .0) (r .ensures .1 .0))
+    (answer-steps (a .self) (r .result .state) (a .cards .now) (a .object .now) _ _ _ (r .ensures .0) (r .ensures .1 .0) (r .ensures .1 .1))
 
 returns-4 : tie.Need-returns-4
 returns-4 c =

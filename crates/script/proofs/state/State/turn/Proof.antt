@@ -4,7 +4,7 @@ use native.Mathlib.Omega.{arith}
 use borrow.Author.Needs.{needs}
 use Rattle.script.specs.Gate.{gateOf}
 use Rattle.script.specs.Input.{machineOf}
-use Rattle.script.proofs.TurnLaws.{none-turn, run-turn, line-turn}
+use Rattle.script.proofs.TurnLaws.{none-turn, run-turn, line-turn, none-places, run-places, line-places}
 use Rattle.script.proofs.state.State.turn.Statement.{statement}
 use Rattle.script.proofs.state.State.turn.Tie as tie
 
@@ -12,7 +12,7 @@ returns : tie.Need-returns
 returns c =
     let a = c .before .before .before .before .args in
     let e = none-turn (machineOf (a .self) (a .held) (a .cards .now) (a .object .now) (a .line .now)) (a .block .now) (a .from) in
-    (e .0, (c .no-text .ensures .0 ∙ e .1, ((λ h. absurd (omega (arith, h, c .before .if1 .taken))), c .no-text .ensures .1)))
+    (e .0, (c .no-text .ensures .0 ∙ e .1, (none-places (a .self) (a .held) (a .cards .now) (a .line .now) (a .block .now) (a .from) (c .before .if1 .taken), ((λ h. absurd (omega (arith, h, c .before .if1 .taken))), c .no-text .ensures .1))))
 
 hold-requires : tie.Need-hold-requires
 hold-requires c κs = (omega (arith, c .before .find .ensures .0), c .before .find .ensures .1 (omega arith), omega arith)
@@ -24,8 +24,10 @@ returns-2 c =
     let at = c .before .before .before .before .before .before .before .before .before .before .before .before .find in
     let e =
     line-turn g _ (a .line .now) _ (a .held) _ (a .block .now) (a .from) (at .result) _ _ (omega arith) (at .ensures .0) (c .before .before .before .before .before .before .before .before .before .if2 .taken) (c .before .before .before .before .before .before .before .before .before .before .hold .ensures .0) (c .before .before .before .before .before .before .before .before .before .before .hold .ensures .1)
-    (c .before .before .before .before .line-done .ensures .0) (c .before .before .before .before .line-done .ensures .1) (c .text .ensures .0) in
-    (e .0, (e .1, ((λ h. (omega (arith, at .ensures .0), omega (arith, c .before .before .before .before .before .before .before .before .before .if2 .taken))), c .text .ensures .1)))
+    (c .before .before .before .before .line-done .ensures .0) (c .before .before .before .before .line-done .ensures .1 .0) (c .text .ensures .0) in
+    let places =
+    line-places (a .self) (a .held) _ (a .cards .now) (a .line .now) _ (a .block .now) (a .from) (at .result) _ (at .ensures .0) (c .before .before .before .before .before .before .before .before .before .if2 .taken) (c .before .before .before .before .before .before .before .before .before .before .hold .ensures .0) (c .before .before .before .before .before .before .before .before .before .before .hold .ensures .1) (c .before .before .before .before .line-done .ensures .1 .1) in
+    (e .0, (e .1, (places, ((λ h. (omega (arith, at .ensures .0), omega (arith, c .before .before .before .before .before .before .before .before .before .if2 .taken))), c .text .ensures .1))))
 
 returns-3 : tie.Need-returns-3
 returns-3 c =
@@ -33,7 +35,8 @@ returns-3 c =
     let g = gateOf (a .self) (a .cards .now) (a .object .now) in
     let at = c .before .before .before .before .find in
     let e = run-turn g (a .line .now) _ (a .held) _ (a .block .now) (a .from) (at .result) (omega arith) (at .ensures .0) (at .ensures .1 (omega arith)) (c .before .before .hold .ensures .0) (c .before .before .hold .ensures .1) in
-    (e .0, (c .no-text2 .ensures .0 ∙ e .1, ((λ h. (omega (arith, c .before .if2 .left, h), at .ensures .1 (omega arith))), c .no-text2 .ensures .1)))
+    let places = run-places (a .self) (a .held) _ (a .cards .now) (a .line .now) _ (a .block .now) (a .from) (at .result) (at .ensures .0) (c .before .if2 .left) (c .before .before .hold .ensures .0) (c .before .before .hold .ensures .1) in
+    (e .0, (c .no-text2 .ensures .0 ∙ e .1, (places, ((λ h. (omega (arith, c .before .if2 .left, h), at .ensures .1 (omega arith))), c .no-text2 .ensures .1))))
 
 pub turn-spec : {M : Type 1} → statement M
 turn-spec =
