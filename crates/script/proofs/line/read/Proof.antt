@@ -6,10 +6,12 @@ use Prim.Native.Nat.{ℕ}
 use native.Mathlib.Omega.{arith}
 use borrow.Author.Needs.{needs}
 use borrow.Author.Tests.{lt-ltb, le-ltb}
+use lib.Dec.{ltb}
+use lib.ListN.{length}
 use Rattle.ccl.specs.Line.{goodCard, keyIn, cardAnswer, cardOf}
 use Rattle.ccl.specs.declared.line.CardKey.{CardKey}
 use Rattle.ccl.specs.declared.line.CardKey.the-variants.{Card, Malformed}
-use Rattle.script.specs.Line.{lineIn}
+use Rattle.script.specs.Line.{longest, lineIn}
 use Rattle.script.proofs.line.read.Statement.{statement}
 use Rattle.script.proofs.line.read.Tie as tie
 
@@ -30,23 +32,30 @@ no-card s r p q = by (goodCard s) (ap cardAnswer (sym p) ∙ q)
     by true e = absurd (omega (arith, ap (λ (x : ℕ × ℕ). x .0) e))
     by false e = refl
 
+-- what the test of the length tells
+long : (c : tie.Then1) → ltb longest (length (c .before .before .args .s .now)) ≡ true
+long c = lt-ltb longest (length (c .before .before .args .s .now)) (omega (arith, c .if1 .taken))
+
+not-long : (c : tie.Else1) → ltb longest (length (c .before .before .args .s .now)) ≡ false
+not-long c = le-ltb longest (length (c .before .before .args .s .now)) (omega (arith, c .if1 .left))
+
 returns : tie.Need-returns
 unfolding lineIn
-returns c = (rw (lt-ltb _ _ (c .if1 .taken)), tt)
+returns c = (rw (long c), tt)
 
 returns-2 : tie.Need-returns-2
 unfolding lineIn
 returns-2 c =
     let at = c .before .before .before in
     let a = card-is (at .before .before .before .args .s .now) _ (c .before .card .given .0 .0) (c .before .card .given .1) (at .card-key .ensures) in
-    (rw (le-ltb _ _ (at .before .if1 .left), a .0, a .1), tt)
+    (rw (not-long (at .before), a .0, a .1), tt)
 
 returns-3 : tie.Need-returns-3
 unfolding lineIn
 returns-3 c =
     let at = c .before .before .before in
     let other = no-card (at .before .before .before .args .s .now) _ (c .before .enum-told .given .1) (at .card-key .ensures) in
-    (rw (le-ltb _ _ (at .before .if1 .left), other) (c .call-line .ensures .0), c .call-line .ensures .1)
+    (rw (not-long (at .before), other) (c .call-line .ensures .0), c .call-line .ensures .1)
 
 pub read-spec : {M : Type 1} → statement M
 read-spec =
