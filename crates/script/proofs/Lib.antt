@@ -7,6 +7,7 @@
 -- StepLaws: a line of each kind
 -- RunLaws: the promise over every list of lines
 -- InputLaws: the input cut into lines, in whatever blocks it arrives
+-- LinesLaws: lines put together, and cut again
 -- TurnLaws: a turn of the code
 pub mod CancelledLaws
 pub mod LineLaws
@@ -16,4 +17,5 @@ pub mod LentLaws
 pub mod StepLaws
 pub mod RunLaws
 pub mod InputLaws
+pub mod LinesLaws
 pub mod TurnLaws

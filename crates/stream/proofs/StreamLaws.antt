@@ -9,14 +9,18 @@ use lib.Dec.{ltb}
 use lib.ListN.{length, take, drop}
 use lib.Seq.{take-add, take-at}
 use Rattle.card.specs.Range.{stored}
+use Rattle.session.specs.Operation.{dead}
+use Rattle.session.specs.declared.state.Session.{Session}
 use Rattle.session.proofs.TestLaws.{clash}
 use Rattle.text.specs.Place.{storedWhere}
 use Rattle.text.proofs.PlaceLaws.{store-fits}
-use Rattle.script.specs.Input.{Machine, machineOf, feed, partFrom}
+use Rattle.script.specs.Gate.{Gate, fresh}
+use Rattle.script.specs.Run.{runLines, EndKept}
+use Rattle.script.specs.Input.{Machine, machineOf, feed, partFrom, linesIn, starts, lastGate}
 use Rattle.script.specs.declared.state.State.{State}
-use Rattle.script.proofs.InputLaws.{feed-append}
+use Rattle.script.proofs.InputLaws.{feed-append, whole-gate}
 use Rattle.script.proofs.SaidLaws.{stored-after}
-use Rattle.stream.specs.Stream.{Fed, gatheredThen}
+use Rattle.stream.specs.Stream.{Fed, gatheredThen, EndsFor}
 
 -- ---- fed
 
@@ -70,3 +74,17 @@ pub gather-anew : (out text left : List ℕ) (gathered n : ℕ) → 3997 < gathe
 unfolding gatheredThen stored
 gather-anew out text left gathered n h e f p =
     rw (p, store-fits out text 0 (omega arith), e, lt-leb gathered 3997 h) (take-at text _ (length text) refl)
+
+-- ---- the end
+
+-- the program starts with no session and no card
+pub start-fresh : (s : State) (cards object line : List ℕ) → (s .session ≡ dead) × (s .cards ≡ 0) → machineOf s 0 cards object line ≡ starts (fresh object)
+start-fresh s cards object line e =
+    ap₂ (λ (x : Session) (n : ℕ). record { gate = record { session = x; keys = take n cards; object = object }; held = [] }) (e .0) (e .1)
+
+-- from the start of the program, fed with some bytes, to the text of its end
+pub ends-for : (object : List ℕ) (m e : Machine) (d : Gate) (text : List ℕ) → m ≡ starts (fresh object) → Fed m e → d ≡ lastGate e → EndKept (d .session) text → EndsFor object text
+ends-for object m e d text p f q k =
+    let at : e ≡ feed (starts (fresh object)) (f .bytes) = f .is ∙ ap (λ (x : Machine). feed x (f .bytes)) p in
+    let same : d ≡ runLines (fresh object) (linesIn (f .bytes)) = q ∙ ap lastGate at ∙ whole-gate (fresh object) (f .bytes) in
+    record { bytes = f .bytes; is = k object (linesIn (f .bytes)) (ap (λ (x : Gate). x .session) same) }

@@ -1,4 +1,4 @@
--- What was fed to the program, and what is gathered to be written.
+-- What was fed to the program, what is gathered to be written, and what is printed at the end.
 -- Assumes nothing.
 use mathlib.Core.Path.{_≡_}
 use mathlib.Core.Bool.{cond}
@@ -6,7 +6,9 @@ use mathlib.Core.List.{List, _++_}
 use Prim.Native.Nat.{ℕ}
 use lib.Dec.{leb}
 use lib.ListN.{take}
-use Rattle.script.specs.Input.{Machine, feed}
+use Rattle.script.specs.Gate.{fresh}
+use Rattle.script.specs.Run.{since, endFor}
+use Rattle.script.specs.Input.{linesIn, Machine, feed}
 
 -- The second state is what the first becomes by some bytes: those that were read.
 pub record Fed (m n : Machine) : Type 0 where
@@ -16,3 +18,8 @@ pub record Fed (m n : Machine) : Type 0 where
 -- What is gathered once a text has come: it follows what was gathered before, or that was written and it stands alone.
 unfoldable pub gatheredThen : List ℕ → ℕ → List ℕ → List ℕ
 gatheredThen out gathered text = cond (leb gathered 3997) (take gathered out ++ text) text
+
+-- What is printed at the end is demand 3's, for the lines of some bytes: those that were read. The object buffer had any content at first.
+pub record EndsFor (object text : List ℕ) : Type 0 where
+  pub bytes : List ℕ
+  pub is : text ≡ endFor (since (fresh object) (linesIn bytes))

@@ -16,7 +16,7 @@ ghost use Prim.Native.Nat.{_+_, _≤_, _<_};
 ghost use lib.ListN.{length, take};
 ghost use Rattle.script.specs.Gate.{gateOf, textIn, TextFits};
 ghost use Rattle.script.specs.Input.{machineOf, feed, lastGate, partFrom};
-ghost use Rattle.stream.specs.Stream.{Fed, gatheredThen};
+ghost use Rattle.stream.specs.Stream.{Fed, gatheredThen, EndsFor};
 
 // How much text is gathered before it is written.
 const GATHERED: usize = 4096;
@@ -186,12 +186,18 @@ fn last_line(at: Progress, cards: &mut [u64; CARDS], object: &mut [u8], line: &[
     last.state
 }
 
-// The program on the file descriptor fd.
-pub fn run(fd: i32) {
-    let mut cards = [0u64; CARDS];
-    let mut object = [0u8; OBJECT];
-    let mut line = [0u8; HELD];
-    let mut out = [0u8; GATHERED];
+// The whole input; the text that is printed at its end.
+fn run_whole(
+    fd: i32,
+    cards: &mut [u64; CARDS],
+    object: &mut [u8],
+    line: &mut [u8; HELD],
+    out: &mut [u8],
+) -> Text
+    requires { ⌜ length (now out) ≡ 4096 ⌝ }
+    ensures for_every_list { λ r. ⌜ EndsFor (now (object .entry)) (textIn r) ⌝ }
+    ensures fits { λ r. ⌜ TextFits r 0 ⌝ }
+{
     let state = step::start();
     let start = Progress {
         state,
@@ -200,9 +206,18 @@ pub fn run(fd: i32) {
         gathered: 0,
         more: true,
     };
-    let end = run_input(fd, start, &mut cards, &mut object, &mut line, &mut out);
-    let done = last_line(end, &mut cards, &mut object, &line);
+    let end = run_input(fd, start, cards, object, line, out);
+    let done = last_line(end, cards, object, line);
     let session = done.session;
-    let text = said::end_text(session);
+    said::end_text(session)
+}
+
+// The program on the file descriptor fd.
+pub fn run(fd: i32) {
+    let mut cards = [0u64; CARDS];
+    let mut object = [0u8; OBJECT];
+    let mut line = [0u8; HELD];
+    let mut out = [0u8; GATHERED];
+    let text = run_whole(fd, &mut cards, &mut object, &mut line, &mut out);
     print(text);
 }
