@@ -147,6 +147,7 @@ impl State {
     }
 }
 
+// n, or `most` where that is less.
 fn within(n: usize, most: usize) -> usize
     ensures is { λ r. ⌜ r ≡ min n most ⌝ }
     ensures inside { λ r. ⌜ r ≤ most ⌝ }

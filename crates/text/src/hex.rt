@@ -37,6 +37,7 @@ fn byte_at(s: &[u8], i: usize) -> u8
     digit_value(s[2 * i]) % 16 * 16 + digit_value(s[2 * i + 1]) % 16
 }
 
+// The lesser of the two.
 fn least(a: usize, b: usize) -> usize
     ensures is { λ r. ⌜ r ≡ min a b ⌝ }
     ensures inside { λ r. ⌜ r ≤ b ⌝ }
