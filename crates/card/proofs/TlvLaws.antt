@@ -207,3 +207,15 @@ pub only-is : (wanted : ℕ) (s : List ℕ) {tag start len : ℕ} {nested : Bool
     → (Whole tag nested start len ≡ headerOf s) × (tag ≡ wanted) × (start + len ≡ length s)
 unfolding onlyOf
 only-is wanted s e = only-from (headerOf s) wanted s e
+
+-- a header's bytes and its length are few
+pub header-small : (s : List ℕ) {tag start len : ℕ} {nested : Bool} → ((i : ℕ) → getD s i 0 < 256) → Whole tag nested start len ≡ headerOf s → (start < 8) × (len < 65536)
+header-small s f e =
+    let p = parts s e in
+    let q = p .1 in
+    let t = ofThree tagSize s in
+    let a : ofThree tagSize s ≤ 3 = tag-cases (getD s 0 0) (getD s 1 0) (getD s 2 0) (λ k n. k ≤ 3) (λ x. omega arith) (λ x y. omega arith) (λ x y z. omega arith) (q .tagged) in
+    let b : (lengthSize (getD s t 0) ≤ 3) × (lengthOf (getD s t 0) (getD s (t + 1) 0) (getD s (t + 2) 0) < 65536) =
+    length-cases (getD s t 0) (getD s (t + 1) 0) (getD s (t + 2) 0) (λ k n. (k ≤ 3) × (n < 65536))
+    (λ x. (omega arith, omega (arith, f t))) (λ x. (omega arith, omega (arith, f (t + 1)))) (λ x. (omega arith, omega (arith, f (t + 1), f (t + 2)))) (q .formed) in
+    (omega (arith, p .0, a, b .0), omega (arith, q .count, b .1))

@@ -46,7 +46,13 @@ pub fn real(n: u32) -> bool
     let y = n / 10000;
     let m = n / 100 % 100;
     let d = n % 100;
-    (1 <= y) & (y <= 9999) & (1 <= m) & (m <= 12) & (1 <= d) & (d <= days_in(y, m))
+    if !((1 <= y) & (y <= 9999) & (1 <= m) & (m <= 12) & (1 <= d)) {
+        return false;
+    }
+    if d <= 28 {
+        return true;
+    }
+    d <= days_in(y, m)
 }
 
 // The date that eight ASCII digits spell.

@@ -31,8 +31,8 @@ pub(crate) struct Layout {
 
 // Where a field's value lies in the whole object. An absent field has the empty part, 0 and 0.
 pub struct Part {
-    pub start: usize,
-    pub len: usize,
+    pub start: u32,
+    pub len: u32,
 }
 
 const EMPTY: Part = Part { start: 0, len: 0 };
@@ -111,7 +111,7 @@ fn layout_of(kind: Kind) -> Layout
 
 // The field of a row at place `at` of the value v, which begins at `base` in the whole.
 fn next_field(v: &[u8], base: usize, row: Row, at: usize) -> Field
-    requires { ⌜ (at ≤ length (now v)) × (base + length (now v) < 2 ^ 64) ⌝ }
+    requires { ⌜ (at ≤ length (now v)) × (base + length (now v) < 2 ^ 32) ⌝ }
     ensures is { λ r. ⌜ r ≡ fieldOf (now (v .entry)) base row at ⌝ }
     ensures inside { λ r. ⌜ r .next ≤ length (now (v .entry)) ⌝ }
 {
@@ -134,8 +134,8 @@ fn next_field(v: &[u8], base: usize, row: Row, at: usize) -> Field
             Field {
                 ok: (row.1 <= len) & (len <= row.2),
                 part: Part {
-                    start: base + a,
-                    len,
+                    start: (base + a) as u32,
+                    len: len as u32,
                 },
                 next: a + len,
             }
@@ -146,7 +146,7 @@ fn next_field(v: &[u8], base: usize, row: Row, at: usize) -> Field
 
 // The fields of an object in its value v, which begins at `base` in the whole: each as its row asks, and nothing after the last.
 fn fields(v: &[u8], base: usize, kind: Kind) -> Object
-    requires { ⌜ base + length (now v) < 2 ^ 64 ⌝ }
+    requires { ⌜ base + length (now v) < 2 ^ 32 ⌝ }
     ensures { λ r. ⌜ objectAnswer r ≡ fieldsAnswer (fieldsFrom (now (v .entry)) base (rowsOf kind) 0) ⌝ }
 {
     let l = layout_of(kind);

@@ -63,7 +63,7 @@ fn walk(s: &[u8], depth: usize) -> Walked
             nested,
             start,
             len,
-        } = tlv::header_of(bytes::rest(s, at))
+        } = tlv::next_header(bytes::rest(s, at))
         else {
             return BROKEN;
         };

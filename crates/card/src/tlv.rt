@@ -77,6 +77,20 @@ pub fn header_of(s: &[u8]) -> Header
     Header::Malformed
 }
 
+// The header of the TLV at the front of s, as header_of gives it. Most have a tag of one byte and a length of one byte: these are read here.
+pub(crate) fn next_header(s: &[u8]) -> Header
+    ensures { λ r. ⌜ r ≡ headerOf (now (s .entry)) ⌝ }
+{
+    let a = bytes::byte(s, 0);
+    if a % 32 != 31 {
+        let n = bytes::byte(s, 1);
+        if n < 0x80 {
+            return ending(s, a as usize, a / 0x20 % 2 == 1, 2, n as usize);
+        }
+    }
+    header_of(s)
+}
+
 // The header of s where s is one TLV with that tag and nothing after it.
 pub fn only(s: &[u8], wanted: usize) -> Header
     ensures { λ r. ⌜ r ≡ onlyOf wanted (now (s .entry)) ⌝ }

@@ -41,8 +41,11 @@ fn headed(lowest: &[u8], highest: &[u8], s: &[u8]) -> bool
     if s.len() < n + 3 {
         return false;
     }
+    if !form::between(lowest, highest, &s[..n]) {
+        return false;
+    }
     let last = s[s.len() - 1];
-    form::between(lowest, highest, &s[..n]) & hex::is_hex(hex_from(s, n)) & (last == b')')
+    hex::is_hex(hex_from(s, n)) & (last == b')')
 }
 
 // The number that the eight digits from place 8 on spell.

@@ -1,7 +1,7 @@
 -- What a session in range tells of its values, one law for each range that a proof cites.
 -- Assumes nothing.
-use mathlib.Core.Path.{_≡_}
-use mathlib.Core.Bool.{Bool, true, false, cond, _&&_, _||_}
+use mathlib.Core.Path.{_≡_, ap, _∙_}
+use mathlib.Core.Bool.{Bool, true, false, cond, not, _&&_, _||_}
 use mathlib.Core.List.{List, [], _∷_}
 use Prim.Native.Nat.{ℕ, suc, _+_, _-_, _≤_, _<_}
 use native.Mathlib.Omega.{arith}
@@ -15,9 +15,10 @@ use Rattle.card.specs.declared.object.Kind.the-variants.{Signed, Unsigned, Fing
 use Rattle.card.specs.declared.object.Part.{Part}
 use Rattle.card.proofs.RangeLaws.{all-at}
 use Rattle.session.specs.Tables.{goodMode, baseOf, kindAt, objectSize}
-use Rattle.session.specs.Ranges.{settingInRange, stepInRange, causeInRange, outstandingInRange, progressInRange, outcomesInRange, partInside, partsInside, cardInRange, inRange}
+use Rattle.session.specs.Ranges.{settingInRange, stepInRange, causeInRange, outstandingInRange, progressInRange, outcomesInRange, partInside, partsInside, cardInRange, inRange, outOfRange, valuesOf, valuesInRange}
 use Rattle.session.specs.Operation.{partFor}
 use Rattle.session.specs.declared.state.Session.{Session}
+use Rattle.session.specs.declared.range.Values.{Values}
 use Rattle.session.proofs.TestLaws.{and-parts}
 
 -- ---- the groups
@@ -91,3 +92,10 @@ part-in-range s step tag e = by-step (eqb step 2) (kindAt (s .setting .mode) ste
     by-step : (b : Bool) (k : Kind) → let p = partIn (rowsOf k) (cond b (s .card .second) (s .card .first)) tag in cond b 4096 0 + (p .start + p .len) ≤ objectSize
     by-step true k = parts-end 4096 k (s .card .second) tag (omega arith) (parts-in-range s e .1)
     by-step false k = parts-end 0 k (s .card .first) tag (omega arith) (parts-in-range s e .0)
+
+-- ---- the values by themselves
+
+-- what their test says is said of the session that they are of
+pub told : (s : Session) {v : Values} {r : Bool} → v ≡ valuesOf s → r ≡ not (valuesInRange v) → r ≡ outOfRange s
+unfolding inRange valuesOf valuesInRange
+told s e f = f ∙ ap (λ (x : Values). not (valuesInRange x)) e

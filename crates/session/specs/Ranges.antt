@@ -14,6 +14,7 @@ use Rattle.session.specs.declared.state.Setting.{Setting}
 use Rattle.session.specs.declared.state.Progress.{Progress}
 use Rattle.session.specs.declared.state.Card.{Card}
 use Rattle.session.specs.declared.state.Session.{Session}
+use Rattle.session.specs.declared.range.Values.{Values}
 
 -- "mode 1–4", "opening date real", "AID length 5–16"
 abbrev pub settingInRange : Setting → Bool
@@ -57,3 +58,26 @@ inRange s =
 
 abbrev pub outOfRange : Session → Bool
 outOfRange s = not (inRange s)
+
+-- ---- the values by themselves, as the code tests them
+
+unfoldable pub valuesOf : Session → Values
+valuesOf s =
+    record {
+      date = s .setting .date;
+      expiry = s .card .expiry;
+      «aid_len» = s .setting .«aid_len»;
+      filled = s .progress .filled;
+      mode = s .setting .mode;
+      step = s .progress .step;
+      cause = s .progress .cause;
+      outstanding = s .progress .outstanding;
+      inside = partsInside (baseOf 1) (s .card .first) && partsInside (baseOf 2) (s .card .second);
+      outcomes = s .outcomes;
+    }
+
+unfoldable pub valuesInRange : Values → Bool
+valuesInRange v =
+    (((goodMode (v .mode) && realDate (v .date)) && (leb 5 (v .«aid_len») && leb (v .«aid_len») 16))
+    && ((stepInRange (v .mode) (v .step) && leb (v .filled) (capacity (v .mode) (v .step))) && (causeInRange (v .cause) && outstandingInRange (v .outstanding) (v .step) (v .cause))))
+    && (outcomesInRange (v .outcomes) && ((eqb (v .expiry) 0 || realDate (v .expiry)) && v .inside))

@@ -67,7 +67,7 @@ impl Session {
     fn answer_refusal(self, size: usize, n: usize) -> Reply
         ensures { λ r. ⌜ replyNumber r ≡ answerRefusal self size n ⌝ }
     {
-        if self.out_of_range() {
+        if self.values().out_of_range() {
             return Reply::OutOfRange;
         }
         if !self.progress.outstanding {

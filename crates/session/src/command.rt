@@ -82,7 +82,7 @@ impl Session {
         ensures { λ r. ⌜ now (out .exit) ≡ commandBuffer self (now (out .entry)) ⌝ }
         ensures for_every_list { λ r. ⌜ CommandKept self (now (out .entry)) (now (out .exit)) r ⌝ }
     {
-        if self.out_of_range() {
+        if self.values().out_of_range() {
             return Commanded {
                 session: self,
                 reply: Reply::OutOfRange,

@@ -32,15 +32,15 @@ impl Session {
         ensures for_every_list { λ r. ⌜ FieldKept self (now (object .entry)) tag (now r) ⌝ }
     {
         let step = tables::step_of_tag(tag);
-        if self.out_of_range() | (object.len() != 8192) {
+        if self.values().out_of_range() | (object.len() != 8192) {
             return &object[..0];
         }
         if step == 0 {
             return &object[..0];
         }
         let part = self.part_for(step, tag);
-        let start = tables::base_of(step) + part.start;
-        let end = start + part.len;
+        let start = tables::base_of(step) + part.start as usize;
+        let end = start + part.len as usize;
         &object[start..end]
     }
 }

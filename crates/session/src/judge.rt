@@ -63,8 +63,8 @@ fn value<'a>(kind: Kind, parts: [Part; FIELDS], s: &'a [u8], tag: u8) -> &'a [u8
     ensures { λ r. ⌜ now r ≡ fieldValue kind tag (now (s .entry)) ⌝ }
 {
     let p = object::part_of(kind, parts, tag);
-    let start = p.start;
-    let end = p.start + p.len;
+    let start = p.start as usize;
+    let end = start + p.len as usize;
     &s[start..end]
 }
 

@@ -1,30 +1,16 @@
 // The ranges of a session's values: exactly those that document 01 lists.
 use crate::state::CHECKS;
-use crate::state::Card;
-use crate::state::Progress;
 use crate::state::Session;
-use crate::state::Setting;
 use crate::tables;
 use card::date;
 use card::object::FIELDS;
 use card::object::Part;
 ghost use mathlib.Core.Path.{_≡_};
+ghost use mathlib.Core.Bool.{not, _||_};
 ghost use Prim.Native.Nat.{_≤_};
-ghost use Rattle.session.specs.Ranges.{settingInRange, progressInRange, outcomesInRange, partInside, partsInside, cardInRange, inRange, outOfRange};
-
-fn setting_in_range(s: Setting) -> bool
-    ensures { λ r. ⌜ r ≡ settingInRange s ⌝ }
-{
-    (tables::good_mode(s.mode) & date::real(s.date)) & ((5 <= s.aid_len) & (s.aid_len <= 16))
-}
-
-fn progress_in_range(mode: u8, p: Progress) -> bool
-    ensures { λ r. ⌜ r ≡ progressInRange mode p ⌝ }
-{
-    let cause = (p.cause == 0) | tables::ends(p.cause);
-    let step = (p.step <= 3) & (!(p.step == 2) | ((mode == 3) | (mode == 4)));
-    (step & (p.filled <= 4096)) & (cause & (!p.outstanding | ((p.step <= 2) & (p.cause == 0))))
-}
+ghost use lib.Dec.{eqb};
+ghost use Rattle.card.specs.Date.{realDate};
+ghost use Rattle.session.specs.Ranges.{outcomesInRange, partInside, partsInside, valuesInRange, valuesOf};
 
 fn outcomes_in_range(o: [u8; CHECKS]) -> bool
     ensures { λ r. ⌜ r ≡ outcomesInRange o ⌝ }
@@ -41,12 +27,7 @@ fn part_inside(base: usize, p: Part) -> bool
     requires { ⌜ base ≤ 4096 ⌝ }
     ensures { λ r. ⌜ r ≡ partInside base p ⌝ }
 {
-    let room = 8192 - base;
-    if p.start <= room {
-        p.len <= room - p.start
-    } else {
-        false
-    }
+    base + (p.start as usize) + (p.len as usize) <= 8192
 }
 
 fn parts_inside(base: usize, parts: [Part; FIELDS]) -> bool
@@ -60,26 +41,69 @@ fn parts_inside(base: usize, parts: [Part; FIELDS]) -> bool
     ok
 }
 
-fn card_in_range(c: Card) -> bool
-    ensures { λ r. ⌜ r ≡ cardInRange c ⌝ }
+fn expiry_in_range(n: u32) -> bool
+    ensures { λ r. ⌜ r ≡ eqb n 0 || realDate n ⌝ }
 {
-    let expiry = (c.expiry == 0) | date::real(c.expiry);
-    let first = c.first;
-    let second = c.second;
-    expiry & (parts_inside(0, first) & parts_inside(4096, second))
+    if n == 0 {
+        return true;
+    }
+    date::real(n)
+}
+
+// The values that have ranges; `inside` says that the field parts are inside. They are few, so that a call hands these on, and not the whole session, for
+// its test: a session that is handed to a function is copied.
+pub(crate) struct Values {
+    pub date: u32,
+    pub expiry: u32,
+    pub aid_len: usize,
+    pub filled: usize,
+    pub mode: u8,
+    pub step: u8,
+    pub cause: u8,
+    pub outstanding: bool,
+    pub inside: bool,
+    pub outcomes: [u8; CHECKS],
+}
+
+impl Values {
+    // Whether the session that they are of is dead or out of range.
+    pub(crate) fn out_of_range(self) -> bool
+        ensures { λ r. ⌜ r ≡ not (valuesInRange self) ⌝ }
+    {
+        let o = self.outcomes;
+        let setting = (tables::good_mode(self.mode) & date::real(self.date))
+            & ((5 <= self.aid_len) & (self.aid_len <= 16));
+        let cause = (self.cause == 0) | tables::ends(self.cause);
+        let step = (self.step <= 3) & (!(self.step == 2) | ((self.mode == 3) | (self.mode == 4)));
+        let turn = !self.outstanding | ((self.step <= 2) & (self.cause == 0));
+        let progress = (step & (self.filled <= 4096)) & (cause & turn);
+        let card = expiry_in_range(self.expiry) & self.inside;
+        !((setting & progress) & (outcomes_in_range(o) & card))
+    }
 }
 
 impl Session {
-    // Whether the session is dead or out of range.
-    pub(crate) fn out_of_range(self) -> bool
-        ensures { λ r. ⌜ r ≡ outOfRange self ⌝ }
+    pub(crate) fn values(self) -> Values
+        ensures { λ r. ⌜ r ≡ valuesOf self ⌝ }
     {
         let setting = self.setting;
-        let progress = self.progress;
+        let p = self.progress;
         let outcomes = self.outcomes;
         let card = self.card;
-        let a = setting_in_range(setting) & progress_in_range(setting.mode, progress);
-        let b = outcomes_in_range(outcomes) & card_in_range(card);
-        !(a & b)
+        let first = card.first;
+        let second = card.second;
+        let inside = parts_inside(0, first) & parts_inside(4096, second);
+        Values {
+            date: setting.date,
+            expiry: card.expiry,
+            aid_len: setting.aid_len,
+            filled: p.filled,
+            mode: setting.mode,
+            step: p.step,
+            cause: p.cause,
+            outstanding: p.outstanding,
+            inside,
+            outcomes,
+        }
     }
 }

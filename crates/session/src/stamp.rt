@@ -35,7 +35,7 @@ impl Session {
     fn stamp_refusal(self, room: usize) -> Reply
         ensures { λ r. ⌜ replyNumber r ≡ stampRefusal self room ⌝ }
     {
-        if self.out_of_range() {
+        if self.values().out_of_range() {
             return Reply::OutOfRange;
         }
         if room < 45 {

@@ -24,7 +24,7 @@ impl Session {
     fn verdict_refusal(self, kind: u8, says: u8, fascn: &[u8]) -> Reply
         ensures { λ r. ⌜ replyNumber r ≡ verdictRefusal self kind says (now (fascn .entry)) ⌝ }
     {
-        if self.out_of_range() {
+        if self.values().out_of_range() {
             return Reply::OutOfRange;
         }
         if self.progress.step != 3 {

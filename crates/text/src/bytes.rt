@@ -1,16 +1,48 @@
 // Where a byte stands in a slice, and bytes stored in one.
 ghost use mathlib.Core.Path.{_≡_};
+ghost use mathlib.Core.Bool.{not};
 ghost use Prim.Native.Nat.{_+_, _≤_};
-ghost use lib.ListN.{length, drop};
-ghost use Rattle.card.specs.Range.{stored};
+ghost use lib.Dec.{eqb};
+ghost use lib.ListN.{length, getD, drop};
+ghost use Rattle.card.specs.Range.{all, stored};
 ghost use Rattle.text.specs.Place.{countBefore, storedWhere};
+
+// None of the 32 bytes from place `at` on is x. Every one is looked at: there is no early exit.
+fn none_of(s: &[u8], at: usize, x: u8) -> bool
+    requires { ⌜ at + 32 ≤ length (now s) ⌝ }
+    ensures { λ r. ⌜ r ≡ all 32 (λ j. not (eqb (getD (now (s .entry)) (at + j) 0) x)) ⌝ }
+{
+    let mut absent = true;
+    for j in 0..32 {
+        absent = absent & (s[at + j] != x);
+    }
+    absent
+}
+
+// A place from `from` on, and no x stands between the two: the blocks of 32 bytes without an x are passed.
+fn past_blocks(s: &[u8], from: usize, x: u8) -> usize
+    ensures is { λ r. ⌜ from + countBefore x (drop from (now (s .entry))) ≡ r + countBefore x (drop r (now (s .entry))) ⌝ }
+    ensures inside { λ r. ⌜ (from ≤ length (now (s .entry)) → r ≤ length (now (s .entry))) ⌝ }
+{
+    let mut i = from;
+    while i < s.len() {
+        if s.len() - i < 32 {
+            return i;
+        }
+        if !none_of(s, i, x) {
+            return i;
+        }
+        i += 32;
+    }
+    i
+}
 
 // The place of the first x in s from place `from` on; the end where there is none.
 pub fn find(s: &[u8], from: usize, x: u8) -> usize
     ensures is { λ r. ⌜ r ≡ from + countBefore x (drop from (now (s .entry))) ⌝ }
     ensures inside { λ r. ⌜ (from ≤ length (now (s .entry)) → r ≤ length (now (s .entry))) ⌝ }
 {
-    let mut i = from;
+    let mut i = past_blocks(s, from, x);
     while i < s.len() {
         if s[i] == x {
             return i;

@@ -74,7 +74,7 @@ fn print_part(p: Part) {
     if p.len == 0 {
         print::text(b" absent");
     } else {
-        print_place(p.start, p.len);
+        print_place(p.start as usize, p.len as usize);
     }
 }
 

@@ -34,4 +34,5 @@ next-field-spec =
     (tie.spec
     (λ c κs. search needs) (λ c κs. search needs) (λ c. search needs) returns (λ c. omega (arith, field-fits (c .before .before .before)))
     (λ c. omega (arith, field-fits (c .before .before .before .before .before))) (λ c. omega (arith, field-fits (c .before .before .before .before .before)))
+    (λ c. omega (arith, field-fits (c .before .before .before .before .before))) (λ c. omega (arith, field-fits (c .before .before .before .before .before)))
     (λ c. search needs) returns-2 returns-3)

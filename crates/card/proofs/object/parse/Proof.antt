@@ -6,7 +6,7 @@ use lib.ListN.{length}
 use Rattle.card.specs.Tlv.{onlyOf}
 use Rattle.card.specs.Object.{objectFrom, objectOf}
 use Rattle.card.specs.declared.tlv.Header.the-variants.{Whole}
-use Rattle.card.proofs.TlvLaws.{value-length, only-is}
+use Rattle.card.proofs.TlvLaws.{value-length, only-is, header-small}
 use Rattle.card.proofs.object.parse.Statement.{statement}
 use Rattle.card.proofs.object.parse.Tie as tie
 
@@ -21,7 +21,7 @@ fields-requires : tie.Need-fields-requires
 fields-requires c κs =
     let s = c .before .before .before .before .before .before .args .s .now in
     let e = only-is 0x53 s (whole-is (c .before .before)) in
-    omega (arith, e .2, ap length (c .part .ensures), value-length s (e .0))
+    omega (arith, e .2, ap length (c .part .ensures), value-length s (e .0), header-small s (λ i. c .before .before .before .before .before .shared-slice-known .given i .fits) (e .0))
 
 returns : tie.Need-returns
 unfolding objectOf objectFrom

@@ -16,17 +16,17 @@ inside : (c : tie.After-part-of) → Inside (length (c .before .before .args .s 
 inside c = rw (part-is c) (part-inside _ _ _)
 
 add-end : tie.Need-add-end
-add-end c = omega (arith, inside (c .before))
+add-end c = omega (arith, inside (c .before .before))
 
 part-result-end : tie.Need-part-result-end
-part-result-end c = inside (c .before)
+part-result-end c = inside (c .before .before)
 
 returns : tie.Need-returns
 unfolding fieldValue bytesAt
 returns c =
-    let p = c .before .before .part-of .result in
+    let p = c .before .before .before .part-of .result in
     let e : p .start + p .len - p .start ≡ p .len = omega arith in
-    rw (e, part-is (c .before .before))
+    rw (e, part-is (c .before .before .before))
 
 pub value-spec : {M : Type 1} → statement M
-value-spec = tie.close (tie.spec (λ c κs. search needs) add-end (λ c. search needs) (λ c. search needs) part-result-end returns)
+value-spec = tie.close (tie.spec (λ c κs. search needs) (λ c. search needs) (λ c. search needs) add-end (λ c. search needs) (λ c. search needs) part-result-end returns)

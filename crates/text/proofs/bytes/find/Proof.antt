@@ -34,21 +34,21 @@ abbrev μ-loop : tie.MeasureT-loop
 returns : tie.Need-returns Inv-loop μ-loop
 returns c =
     let at = c .before .before .before in
-    let a = at .before .args in
+    let a = at .before .before .before .args in
     let e = here (a .x) (a .s .now) (at .loop .i) (c .before .before .loop-test .taken) (c .if1 .taken) in
     (omega (arith, at .loop .inv .1, e), at .loop .inv .0)
 
 loop-again : tie.Need-loop-again Inv-loop μ-loop
 loop-again c =
     let at = c .before .before .before in
-    let a = at .before .args in
+    let a = at .before .before .before .args in
     let e = past (a .x) (a .s .now) (at .loop .i) (c .before .before .loop-test .taken) (c .if1 .left) in
     ((λ h. omega arith), omega (arith, at .loop .inv .1, e))
 
 returns-2 : tie.Need-returns-2 Inv-loop μ-loop
 returns-2 c =
     let at = c .before in
-    let a = at .before .args in
+    let a = at .before .before .before .args in
     let e = none (a .x) (a .s .now) (at .loop .i) (c .loop-test .left) in
     (omega (arith, at .loop .inv .1, e), at .loop .inv .0)
 
@@ -56,4 +56,4 @@ pub find-spec : {M : Type 1} → statement M
 find-spec =
     tie.close
     (tie.spec
-    Inv-loop μ-loop (λ c. ((λ h. h), refl)) (λ c. search needs) returns (λ c. search needs) (λ c. search needs) loop-again returns-2)
+    Inv-loop μ-loop (λ c κs. search needs) (λ c. (c .past-blocks .ensures .1, c .past-blocks .ensures .0)) (λ c. search needs) returns (λ c. search needs) (λ c. search needs) loop-again returns-2)

@@ -7,7 +7,7 @@ use lib.ListN.{length}
 use mathlib.Core.Bool.{true}
 use Rattle.session.specs.Tables.{objectSize}
 use Rattle.session.specs.Ranges.{inRange}
-use Rattle.session.proofs.RangesLaws.{part-in-range}
+use Rattle.session.proofs.RangesLaws.{told, part-in-range}
 use Rattle.session.proofs.CallLaws.{field-refused, field-other, field-accepted, field-read, part-in-buffer}
 use Rattle.session.proofs.KeptLaws.{field-both}
 use Rattle.session.proofs.state.Session.field.Statement.{statement}
@@ -15,31 +15,31 @@ use Rattle.session.proofs.state.Session.field.Tie as tie
 
 returns : tie.Need-returns
 returns c =
-    let a = c .before .before .before .before .before .args in
-    field-both _ _ _ _ (field-refused (a .self) (a .object .now) (a .tag) (rw (c .before .before .out-of-range .ensures) at (c .before .if1 .taken)))
+    let a = c .before .before .before .before .before .before .args in
+    field-both _ _ _ _ (field-refused (a .self) (a .object .now) (a .tag) (rw (told _ (c .before .before .before .values .ensures) (c .before .before .out-of-range .ensures)) at (c .before .if1 .taken)))
 
 returns-2 : tie.Need-returns-2
 returns-2 c =
-    let a = c .before .before .before .before .before .before .args in
-    field-both _ _ _ _ (field-other (a .self) (a .object .now) (a .tag) (sym (c .before .before .before .before .step-of-tag .ensures) ∙ c .before .if2 .taken))
+    let a = c .before .before .before .before .before .before .before .args in
+    field-both _ _ _ _ (field-other (a .self) (a .object .now) (a .tag) (sym (c .before .before .before .before .before .step-of-tag .ensures) ∙ c .before .if2 .taken))
 
 -- past both tests: the session is in range, the buffer has its size
-accepted : (c : tie.After-base-of) → let a = c .before .before .before .before .before .before .before .args in (inRange (a .self) ≡ true) × (length (a .object .now) ≡ objectSize)
+accepted : (c : tie.After-base-of) → let a = c .before .before .before .before .before .before .before .before .args in (inRange (a .self) ≡ true) × (length (a .object .now) ≡ objectSize)
 accepted c =
-    let a = c .before .before .before .before .before .before .before .args in
-    field-accepted (a .self) (length (a .object .now)) (rw (c .before .before .before .before .out-of-range .ensures) at (c .before .before .before .if1 .left))
+    let a = c .before .before .before .before .before .before .before .before .args in
+    field-accepted (a .self) (length (a .object .now)) (rw (told _ (c .before .before .before .before .before .values .ensures) (c .before .before .before .before .out-of-range .ensures)) at (c .before .before .before .if1 .left))
 
 -- and the part ends inside it
-ends : (c : tie.After-base-of) → let p = c .before .part-for .result in c .base-of .result + (p .start + p .len) ≤ length (c .before .before .before .before .before .before .before .args .object .now)
+ends : (c : tie.After-base-of) → let p = c .before .part-for .result in c .base-of .result + (p .start + p .len) ≤ length (c .before .before .before .before .before .before .before .before .args .object .now)
 ends c =
-    let a = c .before .before .before .before .before .before .before .args in
-    rw (c .base-of .ensures, c .before .part-for .ensures, accepted c .1) (part-in-range (a .self) (c .before .before .before .before .before .step-of-tag .result) (a .tag) (accepted c .0))
+    let a = c .before .before .before .before .before .before .before .before .args in
+    rw (c .base-of .ensures, c .before .part-for .ensures, accepted c .1) (part-in-range (a .self) (c .before .before .before .before .before .before .step-of-tag .result) (a .tag) (accepted c .0))
 
 add-start : tie.Need-add-start
-add-start c = omega (arith, ends (c .before), c .before .before .before .before .before .before .before .before .good)
+add-start c = omega (arith, ends (c .before), c .before .before .before .before .before .before .before .before .before .good)
 
 add-end : tie.Need-add-end
-add-end c = omega (arith, ends (c .before .before), c .before .before .before .before .before .before .before .before .before .good)
+add-end c = omega (arith, ends (c .before .before), c .before .before .before .before .before .before .before .before .before .before .good)
 
 part-result-end : tie.Need-part-result-end
 part-result-end c = omega (arith, ends (c .before .before))
@@ -47,8 +47,8 @@ part-result-end c = omega (arith, ends (c .before .before))
 returns-3 : tie.Need-returns-3
 returns-3 c =
     let at = c .before .before .before in
-    let a = c .before .before .before .before .before .before .before .before .before .before .args in
-    let step = c .before .before .before .before .before .before .before .before .step-of-tag in
+    let a = c .before .before .before .before .before .before .before .before .before .before .before .args in
+    let step = c .before .before .before .before .before .before .before .before .before .step-of-tag in
     field-both _ _ _ _
     (part-in-buffer (a .object .now) (at .base-of .result) (at .before .part-for .result)
     ∙ rw (at .base-of .ensures, at .before .part-for .ensures, step .ensures)
@@ -58,5 +58,5 @@ pub field-spec : {M : Type 1} → statement M
 field-spec =
     tie.close
     (tie.spec
-    (λ c κs. search needs) (λ c κs. search needs) (λ c. search needs) returns (λ c. search needs) returns-2 (λ c κs. search needs)
-    (λ c κs. search needs) add-start add-end (λ c. search needs) (λ c. search needs) part-result-end returns-3)
+    (λ c κs. search needs) (λ c κs. search needs) (λ c κs. search needs) (λ c. search needs) returns (λ c. search needs) returns-2 (λ c κs. search needs)
+    (λ c κs. search needs) (λ c. search needs) add-start (λ c. search needs) add-end (λ c. search needs) (λ c. search needs) part-result-end returns-3)
