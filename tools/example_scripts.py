@@ -2,7 +2,7 @@
 
 Every line of a script has its expected reply beside it, and every script the stamp that is
 expected at its end, written out value by value.  What reference.py prints has to be the same.
-Writes data/NAME, args, stdout and README.md of crates/scripts.
+Writes data/NAME, args, stdout and README.md of crates/gate_examples.
 """
 
 import re
@@ -10,7 +10,7 @@ from pathlib import Path
 
 import reference
 
-HERE = Path(__file__).resolve().parent.parent / "crates" / "scripts"
+HERE = Path(__file__).resolve().parent.parent / "crates" / "gate_examples"
 
 # ------------------------------------------------------------ named pieces
 

@@ -9,11 +9,11 @@ use native.Mathlib.Omega.{arith}
 use borrow.Author.Tests.{eqb-true, eq-eqb}
 use lib.Dec.{ltb, lit<}
 use lib.ListN.{length, getD}
-use Rattle.card.specs.Range.{listOf, all, number, written}
+use Rattle.card.specs.Lists.{listOf, all, number, written}
 use Rattle.card.specs.Fascn.{bitAt, valueAt, oddAt, valuesIn, charBit, sentBit, bytesOf, valuesOf}
-use Rattle.card.specs.Characters.{bitOf, recut, oddChar, valueChar, charOf, charsIn, charsOf, bytesOfChars}
+use Rattle.card.specs.Characters.{bitOf, regrouped, oddChar, valueChar, charOf, charsIn, charsOf, bytesOfChars}
 use Rattle.card.proofs.NumberLaws.{number-ext, number-lt, number-group, number-digit, number-mod, pow-mul}
-use Rattle.card.proofs.RangeLaws.{all-at, all-ext, all-of, getD-listOf, listOf-ext, listOf-is, written-ext, written-on}
+use Rattle.card.proofs.ListsLaws.{all-at, all-ext, all-of, getD-listOf, listOf-ext, listOf-is, written-ext, written-on}
 
 bit-lt : (m : ℕ) (s : List ℕ) (p : ℕ) → bitOf m s p < 2
 unfolding bitOf
@@ -37,8 +37,8 @@ module _ (m n a b : ℕ) (same : m * a ≡ n * b) (s : List ℕ) (g : ℕ) where
       bit : (k t : ℕ) → t < m → bitOf m s (m * (a * g) + (m * k + t)) ≡ getD s (a * g + k) 0 / 2 ^ (m - suc t) % 2
       bit k t l = rw (← add-assoc, ← mul-add) (bit-at m s (a * g + k) t l)
 
-  pub recut-digit : (j : ℕ) → j < b → number (2 ^ m) a (λ k. getD s (a * g + k) 0 % 2 ^ m) / 2 ^ (n * (b - 1 - j)) % 2 ^ n ≡ recut m n s (b * g + j)
-  unfolding recut
+  pub recut-digit : (j : ℕ) → j < b → number (2 ^ m) a (λ k. getD s (a * g + k) 0 % 2 ^ m) / 2 ^ (n * (b - 1 - j)) % 2 ^ n ≡ regrouped m n s (b * g + j)
+  unfolding regrouped
   recut-digit j h =
       let f : ℕ → ℕ = λ q. bitOf m s (m * (a * g) + q) in
       let r : b - 1 - j ≡ b - suc j = omega arith in
@@ -50,10 +50,10 @@ module _ (m n a b : ℕ) (same : m * a ≡ n * b) (s : List ℕ) (g : ℕ) where
       place t = rw (mul-add, ← mul-assoc m a g, same, mul-assoc n b g, add-assoc)
 
   -- a turn of a loop over the groups: the numbers of group g, joined as w, are written after those of the groups before
-  pub recut-turn : (l : List ℕ) {c c′ : List ℕ} {w : ℕ} → w ≡ number (2 ^ m) a (λ k. getD s (a * g + k) 0 % 2 ^ m) → c ≡ written l 0 (b * g) (recut m n s)
-      → c′ ≡ written c (b * g) b (λ j. w / 2 ^ (n * (b - 1 - j)) % 2 ^ n) → c′ ≡ written l 0 (b * (g + 1)) (recut m n s)
+  pub recut-turn : (l : List ℕ) {c c′ : List ℕ} {w : ℕ} → w ≡ number (2 ^ m) a (λ k. getD s (a * g + k) 0 % 2 ^ m) → c ≡ written l 0 (b * g) (regrouped m n s)
+      → c′ ≡ written c (b * g) b (λ j. w / 2 ^ (n * (b - 1 - j)) % 2 ^ n) → c′ ≡ written l 0 (b * (g + 1)) (regrouped m n s)
   recut-turn l p q r =
-      r ∙ rw (p, q, mul-add, mul-one) (written-ext (written l 0 (b * g) (recut m n s)) (b * g) b recut-digit ∙ written-on l (b * g) b (recut m n s))
+      r ∙ rw (p, q, mul-add, mul-one) (written-ext (written l 0 (b * g) (regrouped m n s)) (b * g) b recut-digit ∙ written-on l (b * g) b (regrouped m n s))
 
 -- ---- characters and their bits
 
@@ -71,44 +71,44 @@ charBit-lt x j = go (ltb j 4) _ _
 
 -- the value and the parity of character i of the bytes s are those of its bits
 module _ (s : List ℕ) (i : ℕ) where
-  char-bit : (j : ℕ) → j < 5 → recut 8 5 s i / 2 ^ (5 - suc j) % 2 ≡ bitAt s (5 * i + j)
-  unfolding recut
+  char-bit : (j : ℕ) → j < 5 → regrouped 8 5 s i / 2 ^ (5 - suc j) % 2 ≡ bitAt s (5 * i + j)
+  unfolding regrouped
   char-bit j h = number-digit 2 5 (λ j. bitOf 8 s (5 * i + j)) (λ j l. bit-lt 8 s _) j h ∙ bit-is s (5 * i + j)
 
-  bit0 : recut 8 5 s i / 16 % 2 ≡ bitAt s (5 * i)
+  bit0 : regrouped 8 5 s i / 16 % 2 ≡ bitAt s (5 * i)
   bit0 = char-bit 0 (lit< tt) ∙ ap (bitAt s) (add-zero (5 * i))
 
-  bit1 : recut 8 5 s i / 8 % 2 ≡ bitAt s (5 * i + 1)
+  bit1 : regrouped 8 5 s i / 8 % 2 ≡ bitAt s (5 * i + 1)
   bit1 = char-bit 1 (lit< tt)
 
-  bit2 : recut 8 5 s i / 4 % 2 ≡ bitAt s (5 * i + 2)
+  bit2 : regrouped 8 5 s i / 4 % 2 ≡ bitAt s (5 * i + 2)
   bit2 = char-bit 2 (lit< tt)
 
-  bit3 : recut 8 5 s i / 2 % 2 ≡ bitAt s (5 * i + 3)
+  bit3 : regrouped 8 5 s i / 2 % 2 ≡ bitAt s (5 * i + 3)
   bit3 = char-bit 3 (lit< tt)
 
-  bit4 : recut 8 5 s i % 2 ≡ bitAt s (5 * i + 4)
+  bit4 : regrouped 8 5 s i % 2 ≡ bitAt s (5 * i + 4)
   bit4 = rw div-one at (char-bit 4 (lit< tt))
 
-  value-char : valueChar (recut 8 5 s i) ≡ valueAt s i
+  value-char : valueChar (regrouped 8 5 s i) ≡ valueAt s i
   unfolding valueAt
   value-char = rw (bit0, bit1, bit2, bit3)
 
-  odd-char : oddChar (recut 8 5 s i) ≡ oddAt s i
+  odd-char : oddChar (regrouped 8 5 s i) ≡ oddAt s i
   unfolding oddAt
   odd-char = rw (bit0, bit1, bit2, bit3, bit4)
 
 pub values-chars : (s : List ℕ) → listOf 40 (λ i. valueChar (getD (charsIn s) i 0)) ≡ valuesIn s
 unfolding charsIn valuesIn
-values-chars s = listOf-ext 40 (λ i h. ap (λ (c : ℕ). valueChar c) (getD-listOf 40 (recut 8 5 s) i h) ∙ value-char s i)
+values-chars s = listOf-ext 40 (λ i h. ap (λ (c : ℕ). valueChar c) (getD-listOf 40 (regrouped 8 5 s) i h) ∙ value-char s i)
 
 pub odd-chars : (s : List ℕ) → all 40 (λ i. oddChar (getD (charsIn s) i 0)) ≡ all 40 (oddAt s)
 unfolding charsIn
-odd-chars s = all-ext 40 (λ i h. ap (λ (c : ℕ). oddChar c) (getD-listOf 40 (recut 8 5 s) i h) ∙ odd-char s i)
+odd-chars s = all-ext 40 (λ i h. ap (λ (c : ℕ). oddChar c) (getD-listOf 40 (regrouped 8 5 s) i h) ∙ odd-char s i)
 
 -- the bytes of the characters of a FASC-N are those of its values
 pub bytes-chars : (d : List ℕ) → bytesOfChars (charsOf d) ≡ bytesOf (valuesOf d)
-unfolding bytesOfChars bytesOf recut bitOf charsOf charOf sentBit
+unfolding bytesOfChars bytesOf regrouped bitOf charsOf charOf sentBit
 bytes-chars d = listOf-ext 25 (λ k h. number-ext 2 8 (λ j l. bit (8 * k + j) (omega arith)))
   where
     bit : (p : ℕ) → p < 200 → bitOf 5 (charsOf d) p ≡ sentBit (valuesOf d) p

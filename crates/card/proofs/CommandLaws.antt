@@ -8,10 +8,10 @@ use native.Mathlib.Omega.{arith}
 use borrow.Author.Tests.{leb-true, not-false, lt-ltb, le-ltb, ne-eqb}
 use lib.Dec.{leb}
 use lib.ListN.{length, length-append}
-use Rattle.card.specs.Range.{front}
+use Rattle.card.specs.Lists.{overFront}
 use Rattle.card.specs.Refusal.{refusalOf}
 use Rattle.card.specs.Object.{objectTag}
-use Rattle.card.specs.Command.{selectBytes, getDataBytes, getResponseBytes, commandOf, aidRefused, tooShort, selectOf, getDataOf, getResponseOf}
+use Rattle.card.specs.Command.{selectBytes, getDataBytes, getResponseBytes, commandWritten, aidRefused, tooShort, selectOf, getDataOf, getResponseOf}
 use Rattle.card.specs.declared.object.Kind.{Kind}
 use Rattle.card.specs.declared.object.Kind.the-variants.{Signed, Unsigned, Fingers}
 
@@ -46,19 +46,19 @@ pub aid-most : (aid : List ℕ) → aidRefused aid ≡ false → length aid ≤ 
 aid-most aid e = leb-true (length aid) 16 (and-eq-true-iff (leb 5 (length aid)) (leb (length aid) 16) .0 (not-false _ e) .1)
 
 -- a command that fits stands in front of the buffer
-pub command-fits : (c out : List ℕ) {k : ℕ} {m : List ℕ} → length c ≤ length out → k ≡ length c → m ≡ front c out
-    → ((0, k), m) ≡ commandOf (refusalOf ((6, tooShort out c) ∷ [])) c out
-unfolding commandOf
+pub command-fits : (c out : List ℕ) {k : ℕ} {m : List ℕ} → length c ≤ length out → k ≡ length c → m ≡ overFront c out
+    → ((0, k), m) ≡ commandWritten (refusalOf ((6, tooShort out c) ∷ [])) c out
+unfolding commandWritten
 command-fits c out h e f = rw (le-ltb _ _ h, e, f)
 
 -- one that does not is refused
-pub command-short : (c out : List ℕ) → length out < length c → ((6, 0), out) ≡ commandOf (refusalOf ((6, tooShort out c) ∷ [])) c out
-unfolding commandOf
+pub command-short : (c out : List ℕ) → length out < length c → ((6, 0), out) ≡ commandWritten (refusalOf ((6, tooShort out c) ∷ [])) c out
+unfolding commandWritten
 command-short c out h = rw (lt-ltb _ _ h)
 
 -- a refused one leaves the buffer as it was
-pub refused-same : (n : ℕ) (c out : List ℕ) → (commandOf n c out .0 .0 ≡ 0 → ⊥) → commandOf n c out .1 ≡ out
-unfolding commandOf
+pub refused-same : (n : ℕ) (c out : List ℕ) → (commandWritten n c out .0 .0 ≡ 0 → ⊥) → commandWritten n c out .1 ≡ out
+unfolding commandWritten
 refused-same n c out h = rw (ne-eqb n 0 (λ (e : n ≡ 0). h (rw e)))
 
 -- the same of SELECT

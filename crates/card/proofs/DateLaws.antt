@@ -10,8 +10,8 @@ use native.Mathlib.Omega.{arith}
 use borrow.Author.Tests.{eq-eqb, ne-eqb, leb-true, ltb-true, ltb-false}
 use lib.Dec.{eqb, leb, ltb, lit<}
 use lib.ListN.{length, getD}
-use Rattle.card.specs.Range.{all, number}
-use Rattle.card.specs.Date.{leapYear, daysIn, realDate, digitAt, spelled, goodDate, dateOf, daysToYear, daysToMonth, dayOf}
+use Rattle.card.specs.Lists.{all, number}
+use Rattle.card.specs.Date.{leapYear, daysIn, realDate, isDigitAt, spelled, goodDate, dateOf, daysToYear, daysToMonth, dayOf}
 
 -- ---- what the loop of `read` keeps
 
@@ -31,7 +31,7 @@ room s i l e =
     )
 
 -- what was read of eight bytes decides
-pub date-is : (s : List ℕ) {i n : ℕ} {ok r : Bool} → length s ≡ 8 → i ≡ 8 → n ≡ number 10 i (λ j. getD s j 0 % 16) → ok ≡ all i (digitAt s) → r ≡ realDate n
+pub date-is : (s : List ℕ) {i n : ℕ} {ok r : Bool} → length s ≡ 8 → i ≡ 8 → n ≡ number 10 i (λ j. getD s j 0 % 16) → ok ≡ all i (isDigitAt s) → r ≡ realDate n
     → dateOf s ≡ cond (ok && r) (0, n) (22, 0)
 unfolding dateOf goodDate spelled
 date-is s el ei en eo er = rw (er, eo, en, ei, eq-eqb _ _ el)
@@ -51,7 +51,7 @@ date-number s p = rw p
 -- its number is a real date
 good-real : (s : List ℕ) → goodDate s ≡ true → realDate (spelled s) ≡ true
 unfolding goodDate
-good-real s p = and-eq-true-iff (eqb (length s) 8 && all 8 (digitAt s)) (realDate (spelled s)) .0 p .1
+good-real s p = and-eq-true-iff (eqb (length s) 8 && all 8 (isDigitAt s)) (realDate (spelled s)) .0 p .1
 
 -- an accepted date is a real one: cause 22 is not 0
 pub date-real : (s : List ℕ) → dateOf s .0 ≡ 0 → realDate (dateOf s .1) ≡ true

@@ -9,11 +9,11 @@ use borrow.Author.Tests.{eqb-true, leb-true, eq-eqb}
 use lib.Dec.{eqb}
 use lib.ListN.{length, getD}
 use lib.Seq.{ext-getD}
-use Rattle.card.specs.Range.{all, sameBytes}
+use Rattle.card.specs.Lists.{all, sameBytes}
 use Rattle.card.specs.Refusal.{refusalOf}
-use Rattle.card.specs.Fascn.{valueAt, oddAt, valuesIn, bytesOf, digitsIn, marksIn, decimalAt, checkOf, valuesOf, unpackRefusal, unpackAnswer, unpackOf, packRefusal, packOf, keyOf}
+use Rattle.card.specs.Fascn.{valueAt, oddAt, valuesIn, bytesOf, digitsIn, marksIn, decimalAt, checkValue, valuesOf, unpackRefusal, unpackAnswer, unpackOf, packRefusal, packOf, keyOf}
 use Rattle.card.specs.Characters.{checkDigits}
-use Rattle.card.proofs.RangeLaws.{all-at, all-of, length-listOf}
+use Rattle.card.proofs.ListsLaws.{all-at, all-of, length-listOf}
 use Rattle.card.proofs.NumberLaws.{number-lt}
 use Rattle.card.proofs.CharacterLaws.{values-bytes, odd-bytes, bytes-values}
 use Rattle.card.proofs.OrderLaws.{marks-values, digits-values, value-check, values-mod, check-digits, values-digits}
@@ -53,16 +53,16 @@ pub record WellFormed (s : List ℕ) : Type 0 where
   pub odd : all 40 (oddAt s) ≡ true
   pub placed : marksIn (valuesIn s) ≡ true
   pub decimal : all 32 (decimalAt (digitsIn (valuesIn s))) ≡ true
-  pub check : getD (valuesIn s) 39 0 ≡ checkOf (valuesIn s)
+  pub check : getD (valuesIn s) 39 0 ≡ checkValue (valuesIn s)
 
 pub well-formed : (s : List ℕ) → unpackOf s .0 ≡ 0 → WellFormed s
 unfolding unpackOf unpackRefusal
 well-formed s p =
-    go (eqb (length s) 25) (all 40 (oddAt s)) (marksIn (valuesIn s)) (all 32 (decimalAt (digitsIn (valuesIn s)))) (eqb (getD (valuesIn s) 39 0) (checkOf (valuesIn s)))
+    go (eqb (length s) 25) (all 40 (oddAt s)) (marksIn (valuesIn s)) (all 32 (decimalAt (digitsIn (valuesIn s)))) (eqb (getD (valuesIn s) 39 0) (checkValue (valuesIn s)))
     refl refl refl refl refl p
   where
     go : (a b c d e : Bool) → eqb (length s) 25 ≡ a → all 40 (oddAt s) ≡ b → marksIn (valuesIn s) ≡ c → all 32 (decimalAt (digitsIn (valuesIn s))) ≡ d
-        → eqb (getD (valuesIn s) 39 0) (checkOf (valuesIn s)) ≡ e
+        → eqb (getD (valuesIn s) 39 0) (checkValue (valuesIn s)) ≡ e
         → refusalOf ((15, not a) ∷ (16, not b) ∷ (17, not (c && d)) ∷ (18, not e) ∷ []) ≡ 0 → WellFormed s
     go true true true true true pa pb pc pd pe q = record { long = eqb-true _ _ pa; odd = pb; placed = pc; decimal = pd; check = eqb-true _ _ pe }
     go true true true true false pa pb pc pd pe q = absurd (omega arith)

@@ -11,7 +11,7 @@ use lib.Dec.{eqb}
 use lib.ListN.{length, getD, set, take, drop, replicate, length-set, take-append-drop}
 use lib.Seq.{take-suc-set, drop-set-lt, drop-cons, getD-take, drop-drop, drop-length, length-take-le, append-snoc}
 use Rattle.card.specs.Tlv.{headerOf}
-use Rattle.card.specs.Object.{mostFields, empty, absent, found, fieldFrom, fieldOf, fieldsFrom, fieldsAnswer, partIn}
+use Rattle.card.specs.Object.{mostFields, empty, absent, found, fieldFrom, rowField, fieldsFrom, fieldsAnswer, partIn}
 use Rattle.card.specs.declared.tlv.Header.{Header}
 use Rattle.card.specs.declared.tlv.Header.the-variants.{Whole, Malformed}
 use Rattle.card.specs.declared.object.Row.{Row}
@@ -23,31 +23,31 @@ use Rattle.card.specs.declared.object.Field.{Field}
 -- a row's field, by what stands at the place
 module _ (v : List ℕ) (base : ℕ) (r : Row) (at : ℕ) where
   -- no TLV
-  pub field-none : Malformed ≡ headerOf (drop at v) → absent r at ≡ fieldOf v base r at
-  unfolding fieldOf fieldFrom
+  pub field-none : Malformed ≡ headerOf (drop at v) → absent r at ≡ rowField v base r at
+  unfolding rowField fieldFrom
   field-none e = rw (← e)
 
   module _ {tag start len : ℕ} {nested : Bool} (e : Whole tag nested start len ≡ headerOf (drop at v)) where
     -- a TLV with another tag
-    pub field-other : (tag ≡ r .0 → ⊥) → absent r at ≡ fieldOf v base r at
-    unfolding fieldOf fieldFrom
+    pub field-other : (tag ≡ r .0 → ⊥) → absent r at ≡ rowField v base r at
+    unfolding rowField fieldFrom
     field-other h = rw (← e, ne-eqb _ _ h)
 
     -- a TLV with its tag
-    pub field-found : tag ≡ r .0 → found base r at start len ≡ fieldOf v base r at
-    unfolding fieldOf fieldFrom
+    pub field-found : tag ≡ r .0 → found base r at start len ≡ rowField v base r at
+    unfolding rowField fieldFrom
     field-found h = rw (← e, eq-eqb _ _ h)
 
 -- the two cases: it is absent, or a TLV with its tag stands at the place
 pub field-cases : (v : List ℕ) (base : ℕ) (r : Row) (at : ℕ) (P : Field → Type 0) → P (absent r at)
-    → ((tag start len : ℕ) (nested : Bool) → Whole tag nested start len ≡ headerOf (drop at v) → tag ≡ r .0 → P (found base r at start len)) → P (fieldOf v base r at)
+    → ((tag start len : ℕ) (nested : Bool) → Whole tag nested start len ≡ headerOf (drop at v) → tag ≡ r .0 → P (found base r at start len)) → P (rowField v base r at)
 field-cases v base r at P none some = by-header (headerOf (drop at v)) refl
   where
-    by-header : (h : Header) → h ≡ headerOf (drop at v) → P (fieldOf v base r at)
+    by-header : (h : Header) → h ≡ headerOf (drop at v) → P (rowField v base r at)
     by-header Malformed e = subst P (field-none v base r at e) none
     by-header (Whole tag nested start len) e = by-tag (eqb tag (r .0)) refl
       where
-        by-tag : (k : Bool) → eqb tag (r .0) ≡ k → P (fieldOf v base r at)
+        by-tag : (k : Bool) → eqb tag (r .0) ≡ k → P (rowField v base r at)
         by-tag true p = subst P (field-found v base r at e (eqb-true tag (r .0) p)) (some tag start len nested e (eqb-true tag (r .0) p))
         by-tag false p = subst P (field-other v base r at e (eqb-false tag (r .0) p)) none
 
@@ -60,7 +60,7 @@ joined ok ps g = (ok && g .0, ps ++ g .1)
 -- one row more
 more : (v : List ℕ) (base : ℕ) (r : Row) (rs : List Row) (at : ℕ) (ok : Bool) (ps : List Part)
     → joined ok ps (fieldsFrom v base (r ∷ rs) at)
-    ≡ joined (ok && fieldOf v base r at .ok) (ps ++ (fieldOf v base r at .part ∷ [])) (fieldsFrom v base rs (fieldOf v base r at .next))
+    ≡ joined (ok && rowField v base r at .ok) (ps ++ (rowField v base r at .part ∷ [])) (fieldsFrom v base rs (rowField v base r at .next))
 unfolding fieldsFrom
 more v base r rs at ok ps = rw (and-assoc, append-snoc)
 
@@ -89,7 +89,7 @@ one-less {i = i} {parts} p l =
 
 -- row i is read, and its part is stored at place i
 pub read-more : {v : List ℕ} {base : ℕ} {rows : List Row} {i : ℕ} {parts : List Part} {ok : Bool} {at : ℕ} (r : Row) (f : Field)
-    → Read v base rows i parts ok at → i < mostFields → drop i rows ≡ r ∷ drop (i + 1) rows → f ≡ fieldOf v base r at → f .next ≤ length v
+    → Read v base rows i parts ok at → i < mostFields → drop i rows ≡ r ∷ drop (i + 1) rows → f ≡ rowField v base r at → f .next ≤ length v
     → Read v base rows (i + 1) (set parts i (f .part)) (ok && f .ok) (f .next)
 read-more {v} {base} {rows} {i} {parts} {ok} {at} r f p l e q h = record {
   placed = h;

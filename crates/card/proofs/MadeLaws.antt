@@ -10,7 +10,7 @@ use lib.Dec.{eqb, leb, ltb}
 use lib.ListN.{length, getD, take, drop, replicate, length-append, length-drop, length-map, take-append-drop, drop-of-length-le, List·getD-append, List·getD-eq-default}
 use lib.Seq.{take-length, take-all, drop-at, drop-drop, getD-drop}
 use Rattle.card.specs.Tlv.{tagSize, headerOf, onlyFrom, onlyOf, tagBytes, isTag, lengthBytes, fitsForm, encoded}
-use Rattle.card.specs.Object.{rowTag, least, greatest, rowsOf, mostFields, part, empty, absent, fieldFrom, fieldOf, fieldsFrom, fieldsAnswer, objectFrom, objectOf, partIn, bytesAt, fieldValue, Made, no-rows, left-out, given, valueIn}
+use Rattle.card.specs.Object.{rowTag, least, greatest, rowsOf, mostFields, part, empty, absent, fieldFrom, rowField, fieldsFrom, fieldsAnswer, objectFrom, objectOf, partIn, bytesAt, fieldValue, Made, no-rows, left-out, given, valueIn}
 use Rattle.card.specs.declared.object.Kind.{Kind}
 use Rattle.card.specs.declared.object.Kind.the-variants.{Signed, Unsigned, Fingers}
 use Rattle.card.specs.declared.object.Row.{Row}
@@ -66,7 +66,7 @@ not-found base r at u (given {r = q} {rs} {v} form value low high fits m) =
 module _ (s v : List ℕ) (base : ℕ) (held : drop base s ≡ v) where
   fields-made : {rs : List Row} {w : List ℕ} {values : List (List ℕ)} (at : ℕ) → apart rs ≡ true → Made rs w values → at ≤ length v → drop at v ≡ w
       → let f = fieldsFrom v base rs at in (f .0 ≡ true) × (map (bytesAt s) (f .1) ≡ values)
-  unfolding fieldOf fieldsFrom bytesAt
+  unfolding rowField fieldsFrom bytesAt
   fields-made at p no-rows h e = (eq-eqb at (length v) (omega (arith, length-drop at v, ap length e)), refl)
   fields-made at p (left-out {r} {rs} o m) h e =
       let i = three (isTag (rowTag r)) (unlike (rowTag r) rs) (apart rs) p in
@@ -163,7 +163,7 @@ module _ (v : List ℕ) (base : ℕ) (bytes : (i : ℕ) → getD v i 0 < 256) wh
 
   -- one row more, given those after it
   one-field : (r : Row) (rs : List Row) (at : ℕ) → at ≤ length v → ((next : ℕ) → next ≤ length v → fieldsFrom v base rs next .0 ≡ true → MadeFrom rs next)
-      → let f = fieldOf v base r at in f .ok ≡ true → fieldsFrom v base rs (f .next) .0 ≡ true → MadeFrom (r ∷ rs) at
+      → let f = rowField v base r at in f .ok ≡ true → fieldsFrom v base rs (f .next) .0 ≡ true → MadeFrom (r ∷ rs) at
   one-field r rs at h rest =
       field-cases v base r at (λ (f : Field). f .ok ≡ true → fieldsFrom v base rs (f .next) .0 ≡ true → MadeFrom (r ∷ rs) at)
       (λ o q. let later = rest at h q in ([] ∷ later .0, left-out o (later .1)))
@@ -185,7 +185,7 @@ module _ (v : List ℕ) (base : ℕ) (bytes : (i : ℕ) → getD v i 0 < 256) wh
   unfolding fieldsFrom
   fields-read [] at h o = ([], subst (λ (l : List ℕ). Made [] l []) (sym (drop-of-length-le v {i = at} (omega (arith, eqb-true at (length v) o)))) no-rows)
   fields-read (r ∷ rs) at h o =
-      let f = fieldOf v base r at in
+      let f = rowField v base r at in
       let p = and-eq-true-iff (f .ok) (fieldsFrom v base rs (f .next) .0) .0 o in
       one-field r rs at h (λ next i q. fields-read rs next i q) (p .0) (p .1)
 

@@ -7,7 +7,7 @@ use native.Mathlib.Numerals.{add-one}
 use native.Mathlib.Omega.{arith}
 use lib.Dec.{lit<}
 use lib.Pow.{pow-add}
-use Rattle.card.specs.Range.{number}
+use Rattle.card.specs.Lists.{number}
 
 pub number-ext : (b n : ℕ) {f g : ℕ → ℕ} → ((i : ℕ) → i < n → f i ≡ g i) → number b n f ≡ number b n g
 unfolding number

@@ -10,7 +10,7 @@ use lib.Dec.{eqb, leb}
 use lib.ListN.{length, take, drop, replicate, length-drop}
 use lib.Seq.{take-append-le, drop-append-le}
 use Rattle.card.specs.Tlv.{headerOf, onlyOf}
-use Rattle.card.specs.Object.{mostFields, field, part, empty, rowsOf, fieldOf, fieldsFrom, fieldsAnswer, objectFrom, objectOf, partIn, bytesAt, fieldPart, fieldValue, allowed, rowIn}
+use Rattle.card.specs.Object.{mostFields, field, part, empty, rowsOf, rowField, fieldsFrom, fieldsAnswer, objectFrom, objectOf, partIn, bytesAt, fieldPart, fieldValue, allowed, rowIn}
 use Rattle.card.specs.declared.tlv.Header.{Header}
 use Rattle.card.specs.declared.tlv.Header.the-variants.{Whole, Malformed}
 use Rattle.card.specs.declared.object.Kind.{Kind}
@@ -33,7 +33,7 @@ AllInside n (p ∷ ps) = Inside n p × AllInside n ps
 
 -- a field's part lies within the whole, and the next place within the value
 field-inside : (v : List ℕ) (base : ℕ) (r : Row) (at : ℕ) → at ≤ length v
-    → Inside (base + length v) (fieldOf v base r at .part) × (fieldOf v base r at .next ≤ length v)
+    → Inside (base + length v) (rowField v base r at .part) × (rowField v base r at .next ≤ length v)
 field-inside v base r at h =
     field-cases v base r at (λ (f : Field). Inside (base + length v) (f .part) × (f .next ≤ length v)) (omega arith, h)
     (λ tag start len nested e k. let i = place-inside v at e h in (omega arith, i))
@@ -42,7 +42,7 @@ field-inside v base r at h =
 fields-inside : (v : List ℕ) (base : ℕ) (rs : List Row) (at : ℕ) → at ≤ length v → AllInside (base + length v) (fieldsFrom v base rs at .1)
 unfolding fieldsFrom
 fields-inside v base [] at h = tt
-fields-inside v base (r ∷ rs) at h = let i = field-inside v base r at h in (i .0, fields-inside v base rs (fieldOf v base r at .next) (i .1))
+fields-inside v base (r ∷ rs) at h = let i = field-inside v base r at h in (i .0, fields-inside v base rs (rowField v base r at .next) (i .1))
 
 -- two lists of such parts make one
 inside-append : (n : ℕ) (ps qs : List Part) → AllInside n ps → AllInside n qs → AllInside n (ps ++ qs)
@@ -153,7 +153,7 @@ pub object-not-empty : (k : Kind) (s : List ℕ) → objectOf k s .0 ≡ 0 → 0
 object-not-empty k s p = let g = good k s p in omega (arith, g .ends, header-start s (g .whole))
 
 -- a field that is as its row asks has a length that the row allows
-field-allowed : (v : List ℕ) (base : ℕ) (r : Row) (at : ℕ) → fieldOf v base r at .ok ≡ true → allowed r (fieldOf v base r at .part .len) ≡ true
+field-allowed : (v : List ℕ) (base : ℕ) (r : Row) (at : ℕ) → rowField v base r at .ok ≡ true → allowed r (rowField v base r at .part .len) ≡ true
 field-allowed v base r at =
     field-cases v base r at (λ (f : Field). f .ok ≡ true → allowed r (f .part .len) ≡ true)
     (λ (o : r .3 ≡ true). rw o (or-true (leb (r .1) 0 && leb 0 (r .2)))) (λ tag start len nested e k o. rw o)
@@ -164,12 +164,12 @@ fields-allowed : (v : List ℕ) (base : ℕ) (rs : List Row) (at tag : ℕ) (mor
 unfolding fieldsFrom partIn rowIn
 fields-allowed v base [] at tag more o = refl
 fields-allowed v base (r ∷ rs) at tag more o =
-    let f = fieldOf v base r at in
+    let f = rowField v base r at in
     let after = fieldsFrom v base rs (f .next) in
     let p = and-eq-true-iff (f .ok) (after .0) .0 o in
     by-tag (eqb (r .0) tag) (field-allowed v base r at (p .0)) (fields-allowed v base rs (f .next) tag more (p .1))
   where
-    by-tag : (k : Bool) → let f = fieldOf v base r at in let q = partIn rs (fieldsFrom v base rs (f .next) .1 ++ more) tag in
+    by-tag : (k : Bool) → let f = rowField v base r at in let q = partIn rs (fieldsFrom v base rs (f .next) .1 ++ more) tag in
         allowed r (f .part .len) ≡ true → allowed (rowIn rs tag) (q .len) ≡ true → allowed (cond k r (rowIn rs tag)) (cond k (f .part) q .len) ≡ true
     by-tag true here later = here
     by-tag false here later = later

@@ -12,120 +12,120 @@ use lib.Bits.{bitXor, xor-zero-r, xor-lt}
 use lib.Dec.{eqb, lit<, lit≤}
 use lib.ListN.{length, getD, take, length-append, drop-of-length-le, List·getD-append}
 use lib.Seq.{getD-append-add, getD-take, length-take-le, take-take, split-at}
-use Rattle.card.specs.Range.{listOf, run, all, xorOf}
-use Rattle.card.specs.Fascn.{Part, mark, field, order, valuesFrom, digitsFrom, marksFrom, digitsIn, marksIn, decimalAt, checkOf, valuesOf}
-use Rattle.card.specs.Characters.{charOf, charsOf, remark, inOrder, marksOf, checkDigits}
-use Rattle.card.proofs.RangeLaws.{all-at, length-listOf, listOf-is, listOf-ext, listOf-append}
+use Rattle.card.specs.Lists.{listOf, sliceOf, all, xorOf}
+use Rattle.card.specs.Fascn.{Piece, mark, field, order, valuesFrom, digitsFrom, marksFrom, digitsIn, marksIn, decimalAt, checkValue, valuesOf}
+use Rattle.card.specs.Characters.{charOf, charsOf, marksMapped, inOrder, marksOf, checkDigits}
+use Rattle.card.proofs.ListsLaws.{all-at, length-listOf, listOf-is, listOf-ext, listOf-append}
 use Rattle.card.proofs.XorLaws.{xor-assoc, xor-left-comm, xorOf-append, xorOf-lt}
 
 -- ---- runs
 
-run-append : (i n m : ℕ) (l : List ℕ) → run i (n + m) l ≡ run i n l ++ run (i + n) m l
-unfolding run
+run-append : (i n m : ℕ) (l : List ℕ) → sliceOf i (n + m) l ≡ sliceOf i n l ++ sliceOf (i + n) m l
+unfolding sliceOf
 run-append i n m l =
     listOf-append n m (λ j. getD l (i + j) 0)
     ∙ ap (λ (t : List ℕ). listOf n (λ j. getD l (i + j) 0) ++ t) (listOf-ext m (λ j h. ap (λ (p : ℕ). getD l p 0) (sym (add-assoc i n j))))
 
-run-none : (i : ℕ) (l : List ℕ) → run i 0 l ≡ []
-unfolding run listOf
+run-none : (i : ℕ) (l : List ℕ) → sliceOf i 0 l ≡ []
+unfolding sliceOf listOf
 run-none i l = refl
 
-length-run : (i n : ℕ) (l : List ℕ) → length (run i n l) ≡ n
-unfolding run
+length-run : (i n : ℕ) (l : List ℕ) → length (sliceOf i n l) ≡ n
+unfolding sliceOf
 length-run i n l = length-listOf n (λ j. getD l (i + j) 0)
 
-run-one : (i : ℕ) (l : List ℕ) → run i 1 l ≡ getD l i 0 ∷ []
-unfolding run listOf
+run-one : (i : ℕ) (l : List ℕ) → sliceOf i 1 l ≡ getD l i 0 ∷ []
+unfolding sliceOf listOf
 run-one i l = rw add-zero
 
-run-take : (n : ℕ) (l : List ℕ) → n ≤ length l → run 0 n l ≡ take n l
-unfolding run
+run-take : (n : ℕ) (l : List ℕ) → n ≤ length l → sliceOf 0 n l ≡ take n l
+unfolding sliceOf
 run-take n l h = listOf-is n (λ j. getD l (0 + j) 0) (take n l) (length-take-le n l h) (λ i k. rw zero-add (sym (getD-take n l i 0 k)))
 
 -- a run that stands between others
-run-between : (p q r : List ℕ) (n : ℕ) → length q ≡ n → run (length p) n (p ++ (q ++ r)) ≡ q
-unfolding run
+run-between : (p q r : List ℕ) (n : ℕ) → length q ≡ n → sliceOf (length p) n (p ++ (q ++ r)) ≡ q
+unfolding sliceOf
 run-between p q r n e = listOf-is n _ q e (λ i h. getD-append-add p (q ++ r) i 0 ∙ List·getD-append q r 0 i (rw e h))
 
 -- ---- any order of parts
 
-size : List Part → ℕ
+size : List Piece → ℕ
 size [] = 0
 size (mark m ∷ ps) = 1 + size ps
 size (field n ∷ ps) = n + size ps
 
-mark-here : (m i : ℕ) (ps : List Part) (v : List ℕ) → marksFrom i (mark m ∷ ps) v ≡ true → (run i 1 v ≡ m ∷ []) × (marksFrom (suc i) ps v ≡ true)
+mark-here : (m i : ℕ) (ps : List Piece) (v : List ℕ) → marksFrom i (mark m ∷ ps) v ≡ true → (sliceOf i 1 v ≡ m ∷ []) × (marksFrom (suc i) ps v ≡ true)
 unfolding marksFrom
 mark-here m i ps v h =
     let b = and-eq-true-iff (eqb (getD v i 0) m) (marksFrom (suc i) ps v) .0 h in
     (run-one i v ∙ ap (λ (x : ℕ). x ∷ []) (eqb-true _ _ (b .0)), b .1)
 
 -- where the marks stand in their places, the exclusive or of all values is that of the marks and the digits
-xor-parts : (ps : List Part) (i : ℕ) (v : List ℕ) → marksFrom i ps v ≡ true → xorOf (run i (size ps) v) ≡ bitXor (xorOf (marksOf ps)) (xorOf (digitsFrom i ps v))
+xor-parts : (ps : List Piece) (i : ℕ) (v : List ℕ) → marksFrom i ps v ≡ true → xorOf (sliceOf i (size ps) v) ≡ bitXor (xorOf (marksOf ps)) (xorOf (digitsFrom i ps v))
 unfolding digitsFrom marksFrom size marksOf xorOf
 xor-parts [] i v h = ap xorOf (run-none i v)
 xor-parts (mark m ∷ ps) i v h =
     let b = mark-here m i ps v h in
-    rw (run-append i 1 (size ps) v, b .0, xorOf-append (m ∷ []) (run (i + 1) (size ps) v), add-one, xor-parts ps (suc i) v (b .1), xor-zero-r)
+    rw (run-append i 1 (size ps) v, b .0, xorOf-append (m ∷ []) (sliceOf (i + 1) (size ps) v), add-one, xor-parts ps (suc i) v (b .1), xor-zero-r)
     (sym (xor-assoc m (xorOf (marksOf ps)) (xorOf (digitsFrom (suc i) ps v))))
 xor-parts (field n ∷ ps) i v h =
-    rw (run-append i n (size ps) v, xorOf-append (run i n v) (run (i + n) (size ps) v), xor-parts ps (i + n) v h, xorOf-append (run i n v) (digitsFrom (i + n) ps v))
-    (xor-left-comm (xorOf (run i n v)) (xorOf (marksOf ps)) (xorOf (digitsFrom (i + n) ps v)))
+    rw (run-append i n (size ps) v, xorOf-append (sliceOf i n v) (sliceOf (i + n) (size ps) v), xor-parts ps (i + n) v h, xorOf-append (sliceOf i n v) (digitsFrom (i + n) ps v))
+    (xor-left-comm (xorOf (sliceOf i n v)) (xorOf (marksOf ps)) (xorOf (digitsFrom (i + n) ps v)))
 
 -- and the values of these digits are those values again
-values-back : (ps : List Part) (i : ℕ) (v p : List ℕ) → marksFrom i ps v ≡ true → valuesFrom (length p) ps (p ++ digitsFrom i ps v) ≡ run i (size ps) v
+values-back : (ps : List Piece) (i : ℕ) (v p : List ℕ) → marksFrom i ps v ≡ true → valuesFrom (length p) ps (p ++ digitsFrom i ps v) ≡ sliceOf i (size ps) v
 unfolding digitsFrom marksFrom valuesFrom size
 values-back [] i v p h = sym (run-none i v)
 values-back (mark m ∷ ps) i v p h =
     let b = mark-here m i ps v h in
     rw (run-append i 1 (size ps) v, b .0, add-one) (ap (λ (t : List ℕ). m ∷ t) (values-back ps (suc i) v p (b .1)))
 values-back (field n ∷ ps) i v p h =
-    let q = run i n v in
+    let q = sliceOf i n v in
     let r = digitsFrom (i + n) ps v in
     let e : length q ≡ n = length-run i n v in
-    let rest : valuesFrom (length p + n) ps (p ++ (q ++ r)) ≡ run (i + n) (size ps) v = rw (length-append, e, append-assoc) at (values-back ps (i + n) v (p ++ q) h) in
+    let rest : valuesFrom (length p + n) ps (p ++ (q ++ r)) ≡ sliceOf (i + n) (size ps) v = rw (length-append, e, append-assoc) at (values-back ps (i + n) v (p ++ q) h) in
     rw (run-between p q r n e, rest, run-append i n (size ps) v)
 
 -- ---- the order of a FASC-N
 
 -- 39 characters before the check character, and 32 digits
 pub length-front : (d : List ℕ) → length (valuesFrom 0 order d) ≡ 39
-unfolding valuesFrom run listOf
+unfolding valuesFrom sliceOf listOf
 length-front d = refl
 
 pub length-digits : (v : List ℕ) → length (digitsIn v) ≡ 32
-unfolding digitsFrom run listOf
+unfolding digitsFrom sliceOf listOf
 length-digits v = refl
 
-pub check-values : (d : List ℕ) → checkOf (valuesFrom 0 order d) ≡ checkDigits d
-unfolding checkOf checkDigits valuesFrom digitsFrom marksFrom size run listOf
+pub check-values : (d : List ℕ) → checkValue (valuesFrom 0 order d) ≡ checkDigits d
+unfolding checkValue checkDigits valuesFrom digitsFrom marksFrom size sliceOf listOf
 check-values d = xor-parts order 0 (valuesFrom 0 order d) refl
 
 pub marks-values : (d : List ℕ) → marksIn (valuesOf d) ≡ true
-unfolding valuesOf valuesFrom marksFrom run listOf
+unfolding valuesOf valuesFrom marksFrom sliceOf listOf
 marks-values d = refl
 
 pub digits-values : (d : List ℕ) → length d ≡ 32 → digitsIn (valuesOf d) ≡ d
-unfolding valuesOf valuesFrom digitsFrom run listOf
+unfolding valuesOf valuesFrom digitsFrom sliceOf listOf
 digits-values d e = listOf-is 32 (λ k. getD d k 0) d e (λ i h. refl)
 
-pub value-check : (d : List ℕ) → getD (valuesOf d) 39 0 ≡ checkOf (valuesOf d)
-unfolding valuesOf valuesFrom checkOf run listOf
+pub value-check : (d : List ℕ) → getD (valuesOf d) 39 0 ≡ checkValue (valuesOf d)
+unfolding valuesOf valuesFrom checkValue sliceOf listOf
 value-check d = refl
 
-values-are : (d : List ℕ) → valuesOf d ≡ valuesFrom 0 order d ++ (checkOf (valuesFrom 0 order d) ∷ [])
+values-are : (d : List ℕ) → valuesOf d ≡ valuesFrom 0 order d ++ (checkValue (valuesFrom 0 order d) ∷ [])
 unfolding valuesOf
 values-are d = refl
 
 -- the low four bits of each value: of the marks, of the digits and of the check value
 each : (d : List ℕ) → listOf 40 (λ i. getD (valuesOf d) i 0 % 16)
-    ≡ valuesFrom 0 order (listOf 32 (λ k. getD d k 0 % 16)) ++ (checkOf (valuesFrom 0 order d) % 16 ∷ [])
-unfolding valuesOf valuesFrom run listOf
+    ≡ valuesFrom 0 order (listOf 32 (λ k. getD d k 0 % 16)) ++ (checkValue (valuesFrom 0 order d) % 16 ∷ [])
+unfolding valuesOf valuesFrom sliceOf listOf
 each d = refl
 
 -- the characters of the digits and the marks, in order, are those of the values
 pub chars-in-order : (d : List ℕ) → inOrder (listOf 32 (λ k. charOf (getD d k 0))) (charOf 11) (charOf 13) (charOf 15) (charOf (checkDigits d)) ≡ charsOf d
-unfolding inOrder remark charsOf valuesOf valuesFrom run listOf
+unfolding inOrder marksMapped charsOf valuesOf valuesFrom sliceOf listOf
 chars-in-order d = rw (← check-values d)
 
 -- every value of decimal digits is below 16
@@ -139,21 +139,21 @@ values-mod d e h = each d ∙ ap₂ (λ (l : List ℕ) (x : ℕ). valuesFrom 0 o
     same : listOf 32 (λ k. getD d k 0 % 16) ≡ d
     same = listOf-is 32 _ d e (λ k l. mod-eq-of-lt (small k l))
 
-    check-lt : checkOf (valuesFrom 0 order d) < 16
+    check-lt : checkValue (valuesFrom 0 order d) < 16
     check-lt = rw (check-values d) (xor-lt 4 (xorOf (marksOf order)) _ (lit< tt) (xorOf-lt 4 (λ k. getD d k 0) 32 small))
 
 -- values with every mark in its place
 module _ (v : List ℕ) (long : length v ≡ 40) (placed : marksIn v ≡ true) where
-  front : run 0 39 v ≡ take 39 v
-  front = run-take 39 v (omega arith)
+  front-slice : sliceOf 0 39 v ≡ take 39 v
+  front-slice = run-take 39 v (omega arith)
 
-  pub check-digits : checkOf v ≡ checkDigits (digitsIn v)
-  unfolding checkOf checkDigits digitsFrom size run listOf
-  check-digits = ap xorOf (sym front) ∙ xor-parts order 0 v placed
+  pub check-digits : checkValue v ≡ checkDigits (digitsIn v)
+  unfolding checkValue checkDigits digitsFrom size sliceOf listOf
+  check-digits = ap xorOf (sym front-slice) ∙ xor-parts order 0 v placed
 
-  pub values-digits : getD v 39 0 ≡ checkOf v → valuesOf (digitsIn v) ≡ v
-  unfolding checkOf size
+  pub values-digits : getD v 39 0 ≡ checkValue v → valuesOf (digitsIn v) ≡ v
+  unfolding checkValue size
   values-digits c =
-      let values : valuesFrom 0 order (digitsIn v) ≡ take 39 v = values-back order 0 v [] placed ∙ front in
+      let values : valuesFrom 0 order (digitsIn v) ≡ take 39 v = values-back order 0 v [] placed ∙ front-slice in
       let whole : v ≡ take 39 v ++ (getD v 39 0 ∷ []) = rw (drop-of-length-le v {i = 40} (omega arith)) at (split-at v 39 0 (omega arith)) in
       rw (values-are, values, take-take 39 39 v (lit≤ tt), ← c) (sym whole)

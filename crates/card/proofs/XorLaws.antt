@@ -10,7 +10,7 @@ use lib.Arith.{bin-ind}
 use lib.Bits.{bitXor, differ, xor-step, xor-shr, xor-mod, xor-comm, xor-zero-r, xor-lt}
 use lib.Dec.{lit<}
 use lib.Pow.{pow-pos}
-use Rattle.card.specs.Range.{listOf, xorOf}
+use Rattle.card.specs.Lists.{listOf, xorOf}
 
 digit-assoc : (x y z : ℕ) → x < 2 → y < 2 → z < 2 → differ (bitXor x y) z ≡ differ x (bitXor y z)
 digit-assoc zero zero z p q r = refl

@@ -7,8 +7,8 @@ use Prim.Native.Nat.{ℕ, suc, _+_, _-_, _*_, _/_, _%_, _^_, _≤_, _<_}
 use lib.Bits.{bitXor}
 use lib.Dec.{eqb}
 use lib.ListN.{getD}
-use Rattle.card.specs.Range.{listOf, number, xorOf}
-use Rattle.card.specs.Fascn.{charBit, Part, mark, field, order, valuesFrom, valuesOf}
+use Rattle.card.specs.Lists.{listOf, number, xorOf}
+use Rattle.card.specs.Fascn.{charBit, Piece, mark, field, order, valuesFrom, valuesOf}
 
 -- What number_in asks: the n numbers from place at on lie within len, and n digits to the base fit 64 bits.
 pub record Readable (len at n base : ℕ) : Type 0 where
@@ -28,8 +28,8 @@ unfoldable pub bitOf : ℕ → List ℕ → ℕ → ℕ
 bitOf m s p = getD s (p / m) 0 / 2 ^ (m - suc (p % m)) % 2
 
 -- The bits of the numbers s, each of m bits, cut anew into numbers of n bits: number i of these.
-unfoldable pub recut : ℕ → ℕ → List ℕ → ℕ → ℕ
-recut m n s i = number 2 n (λ j. bitOf m s (n * i + j))
+unfoldable pub regrouped : ℕ → ℕ → List ℕ → ℕ → ℕ
+regrouped m n s i = number 2 n (λ j. bitOf m s (n * i + j))
 
 -- The count of ones of a character is odd; its value; and the character of a value.
 abbrev pub oddChar : ℕ → Bool
@@ -43,27 +43,27 @@ charOf x = number 2 5 (charBit x)
 
 -- The 40 characters of the bytes s, and those of the FASC-N with the digits d.
 unfoldable pub charsIn : List ℕ → List ℕ
-charsIn s = listOf 40 (recut 8 5 s)
+charsIn s = listOf 40 (regrouped 8 5 s)
 
 unfoldable pub charsOf : List ℕ → List ℕ
 charsOf d = listOf 40 (λ i. charOf (getD (valuesOf d) i 0))
 
 -- The 25 bytes of the 40 characters c.
 unfoldable pub bytesOfChars : List ℕ → List ℕ
-bytesOfChars c = listOf 25 (recut 5 8 c)
+bytesOfChars c = listOf 25 (regrouped 5 8 c)
 
 -- The parts ps, with f of each mark in its place.
-unfoldable pub remark : (ℕ → ℕ) → List Part → List Part
-remark f [] = []
-remark f (mark m ∷ ps) = mark (f m) ∷ remark f ps
-remark f (field n ∷ ps) = field n ∷ remark f ps
+unfoldable pub marksMapped : (ℕ → ℕ) → List Piece → List Piece
+marksMapped f [] = []
+marksMapped f (mark m ∷ ps) = mark (f m) ∷ marksMapped f ps
+marksMapped f (field n ∷ ps) = field n ∷ marksMapped f ps
 
 -- The numbers e in the places of the digits, ss, fs and es in those of SS, FS and ES, and check in the last.
 unfoldable pub inOrder : List ℕ → ℕ → ℕ → ℕ → ℕ → List ℕ
-inOrder e ss fs es check = valuesFrom 0 (remark (λ m. cond (eqb m 11) ss (cond (eqb m 13) fs es)) order) e ++ (check ∷ [])
+inOrder e ss fs es check = valuesFrom 0 (marksMapped (λ m. cond (eqb m 11) ss (cond (eqb m 13) fs es)) order) e ++ (check ∷ [])
 
 -- The marks among the parts ps.
-unfoldable pub marksOf : List Part → List ℕ
+unfoldable pub marksOf : List Piece → List ℕ
 marksOf [] = []
 marksOf (mark m ∷ ps) = m ∷ marksOf ps
 marksOf (field n ∷ ps) = marksOf ps

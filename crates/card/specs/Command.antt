@@ -5,7 +5,7 @@ use mathlib.Core.List.{List, [], _∷_, _++_}
 use Prim.Native.Nat.{ℕ}
 use lib.Dec.{eqb, ltb, leb}
 use lib.ListN.{length, getD, take}
-use Rattle.card.specs.Range.{front, sameBytes}
+use Rattle.card.specs.Lists.{overFront, sameBytes}
 use Rattle.card.specs.Refusal.{refusalOf}
 use Rattle.card.specs.Object.{objectTag}
 use Rattle.card.specs.declared.object.Kind.{Kind}
@@ -31,8 +31,8 @@ getResponseBytes second = (0x00 ∷ 0xC0 ∷ 0x00 ∷ 0x00 ∷ []) ++ (second �
 -- ---- writing it
 
 -- What a command gives: number, count of bytes, and the buffer then. A refused one (number n is not 0) writes nothing.
-unfoldable pub commandOf : ℕ → List ℕ → List ℕ → (ℕ × ℕ) × List ℕ
-commandOf n c out = cond (eqb n 0) ((0, length c), front c out) ((n, 0), out)
+unfoldable pub commandWritten : ℕ → List ℕ → List ℕ → (ℕ × ℕ) × List ℕ
+commandWritten n c out = cond (eqb n 0) ((0, length c), overFront c out) ((n, 0), out)
 
 -- Open's condition 3, AID not 5–16 bytes, and command's 6, buffer shorter than the command.
 abbrev pub aidRefused : List ℕ → Bool
@@ -43,14 +43,14 @@ tooShort out c = ltb (length out) (length c)
 
 unfoldable pub selectOf : List ℕ → List ℕ → (ℕ × ℕ) × List ℕ
 selectOf aid out =
-    commandOf (refusalOf ((3, aidRefused aid) ∷ (6, tooShort out (selectBytes aid)) ∷ [])) (selectBytes aid) out
+    commandWritten (refusalOf ((3, aidRefused aid) ∷ (6, tooShort out (selectBytes aid)) ∷ [])) (selectBytes aid) out
 
 unfoldable pub getDataOf : Kind → List ℕ → (ℕ × ℕ) × List ℕ
-getDataOf k out = commandOf (refusalOf ((6, tooShort out (getDataBytes k)) ∷ [])) (getDataBytes k) out
+getDataOf k out = commandWritten (refusalOf ((6, tooShort out (getDataBytes k)) ∷ [])) (getDataBytes k) out
 
 unfoldable pub getResponseOf : ℕ → List ℕ → (ℕ × ℕ) × List ℕ
 getResponseOf second out =
-    commandOf (refusalOf ((6, tooShort out (getResponseBytes second)) ∷ [])) (getResponseBytes second) out
+    commandWritten (refusalOf ((6, tooShort out (getResponseBytes second)) ∷ [])) (getResponseBytes second) out
 
 -- The answer of the code: document 01's number of each case, and the count beside it.
 abbrev pub commandNumber : CommandAnswer → ℕ

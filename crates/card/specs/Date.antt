@@ -5,7 +5,7 @@ use mathlib.Core.List.{List}
 use Prim.Native.Nat.{ℕ, zero, suc, _+_, _/_, _%_}
 use lib.Dec.{eqb, leb}
 use lib.ListN.{length, getD}
-use Rattle.card.specs.Range.{all, number}
+use Rattle.card.specs.Lists.{all, number}
 use Rattle.card.specs.declared.date.Date.{Date}
 use Rattle.card.specs.declared.date.Date.the-variants.{Real, Unreal}
 
@@ -30,8 +30,8 @@ realDate n =
 -- ---- field 35
 
 -- Byte i of s is an ASCII digit, 30 to 39.
-unfoldable pub digitAt : List ℕ → ℕ → Bool
-digitAt s i = leb 0x30 (getD s i 0) && leb (getD s i 0) 0x39
+unfoldable pub isDigitAt : List ℕ → ℕ → Bool
+isDigitAt s i = leb 0x30 (getD s i 0) && leb (getD s i 0) 0x39
 
 -- The number that eight ASCII digits spell: the value of each is its low four bits.
 unfoldable pub spelled : List ℕ → ℕ
@@ -39,7 +39,7 @@ spelled s = number 10 8 (λ i. getD s i 0 % 16)
 
 -- The bytes s are a real date.
 unfoldable pub goodDate : List ℕ → Bool
-goodDate s = eqb (length s) 8 && all 8 (digitAt s) && realDate (spelled s)
+goodDate s = eqb (length s) 8 && all 8 (isDigitAt s) && realDate (spelled s)
 
 -- Cause 0 and the number that they spell, or cause 22 and no number (0).
 unfoldable pub dateOf : List ℕ → ℕ × ℕ

@@ -5,7 +5,7 @@ use mathlib.Core.List.{List, [], _∷_, _++_}
 use Prim.Native.Nat.{ℕ, suc, _+_, _-_, _*_, _/_, _%_, _^_}
 use lib.Dec.{eqb, ltb, leb}
 use lib.ListN.{length, getD, take, replicate}
-use Rattle.card.specs.Range.{listOf, run, all, number, xorOf}
+use Rattle.card.specs.Lists.{listOf, sliceOf, all, number, xorOf}
 use Rattle.card.specs.Refusal.{refusalOf}
 use Rattle.card.specs.declared.fascn.UnpackAnswer.{UnpackAnswer}
 use Rattle.card.specs.declared.fascn.UnpackAnswer.the-variants as unpack-answers
@@ -47,68 +47,68 @@ bytesOf v = listOf 25 (λ k. number 2 8 (λ j. sentBit v (8 * k + j)))
 -- ---- the order of marks and digits
 
 -- A part of a FASC-N: a mark, which is one character with a fixed value, or a field of some digits.
-pub data Part : Type 0 where
-  mark : ℕ → Part
-  field : ℕ → Part
+pub data Piece : Type 0 where
+  mark : ℕ → Piece
+  field : ℕ → Piece
 
 -- Start sentinel, field separator and end sentinel.
-abbrev pub SS : Part
+abbrev pub SS : Piece
 SS = mark 11
 
-abbrev pub FS : Part
+abbrev pub FS : Piece
 FS = mark 13
 
-abbrev pub ES : Part
+abbrev pub ES : Piece
 ES = mark 15
 
 -- The fields, each with its count of digits.
-abbrev pub agency : Part
+abbrev pub agency : Piece
 agency = field 4
 
-abbrev pub system : Part
+abbrev pub system : Piece
 system = field 4
 
-abbrev pub credential : Part
+abbrev pub credential : Piece
 credential = field 6
 
-abbrev pub series : Part
+abbrev pub series : Piece
 series = field 1
 
-abbrev pub issue : Part
+abbrev pub issue : Piece
 issue = field 1
 
-abbrev pub person : Part
+abbrev pub person : Piece
 person = field 10
 
-abbrev pub category : Part
+abbrev pub category : Piece
 category = field 1
 
-abbrev pub organisation : Part
+abbrev pub organisation : Piece
 organisation = field 4
 
-abbrev pub association : Part
+abbrev pub association : Piece
 association = field 1
 
 -- Order: 39 characters, of which 32 are digits. The check character comes after them.
-abbrev pub order : List Part
+abbrev pub order : List Piece
 order =
     SS ∷ agency ∷ FS ∷ system ∷ FS ∷ credential ∷ FS ∷ series ∷ FS ∷ issue ∷ FS ∷ person ∷ category ∷ organisation ∷ association
     ∷ ES ∷ []
 
 -- The values of the parts ps, whose first digit is digit k of the digits d.
-unfoldable pub valuesFrom : ℕ → List Part → List ℕ → List ℕ
+unfoldable pub valuesFrom : ℕ → List Piece → List ℕ → List ℕ
 valuesFrom k [] d = []
 valuesFrom k (mark m ∷ ps) d = m ∷ valuesFrom k ps d
-valuesFrom k (field n ∷ ps) d = run k n d ++ valuesFrom (k + n) ps d
+valuesFrom k (field n ∷ ps) d = sliceOf k n d ++ valuesFrom (k + n) ps d
 
 -- The digits of the parts ps, whose first character is character i of the values v.
-unfoldable pub digitsFrom : ℕ → List Part → List ℕ → List ℕ
+unfoldable pub digitsFrom : ℕ → List Piece → List ℕ → List ℕ
 digitsFrom i [] v = []
 digitsFrom i (mark m ∷ ps) v = digitsFrom (suc i) ps v
-digitsFrom i (field n ∷ ps) v = run i n v ++ digitsFrom (i + n) ps v
+digitsFrom i (field n ∷ ps) v = sliceOf i n v ++ digitsFrom (i + n) ps v
 
 -- Every mark of the parts ps, whose first character is character i of the values v, stands in its place.
-unfoldable pub marksFrom : ℕ → List Part → List ℕ → Bool
+unfoldable pub marksFrom : ℕ → List Piece → List ℕ → Bool
 marksFrom i [] v = true
 marksFrom i (mark m ∷ ps) v = eqb (getD v i 0) m && marksFrom (suc i) ps v
 marksFrom i (field n ∷ ps) v = marksFrom (i + n) ps v
@@ -125,12 +125,12 @@ unfoldable pub decimalAt : List ℕ → ℕ → Bool
 decimalAt d k = leb (getD d k 0) 9
 
 -- The check value: the exclusive or of the 39 values before it.
-unfoldable pub checkOf : List ℕ → ℕ
-checkOf v = xorOf (take 39 v)
+unfoldable pub checkValue : List ℕ → ℕ
+checkValue v = xorOf (take 39 v)
 
 -- The 40 values of the FASC-N with the digits d.
 unfoldable pub valuesOf : List ℕ → List ℕ
-valuesOf d = valuesFrom 0 order d ++ (checkOf (valuesFrom 0 order d) ∷ [])
+valuesOf d = valuesFrom 0 order d ++ (checkValue (valuesFrom 0 order d) ∷ [])
 
 -- ---- what the calls give
 
@@ -142,7 +142,7 @@ unpackRefusal s =
     ((15, not (eqb (length s) 25))
     ∷ (16, not (all 40 (oddAt s)))
     ∷ (17, not (marksIn v && all 32 (decimalAt (digitsIn v))))
-    ∷ (18, not (eqb (getD v 39 0) (checkOf v)))
+    ∷ (18, not (eqb (getD v 39 0) (checkValue v)))
     ∷ [])
 
 -- The digits d beside the number n, or 32 zeros where n refuses.

@@ -1,6 +1,6 @@
 -- What the contracts of this crate mean.
--- Range: lists, tests and numbers by index
-pub mod Range
+-- Lists: lists, tests and numbers by index
+pub mod Lists
 -- Refusal: the first condition of a list that fits
 pub mod Refusal
 -- Fascn: the FASC-N

@@ -79,14 +79,14 @@ fieldFrom Malformed base r at = absent r at
 fieldFrom (Whole tag nested start len) base r at =
     cond (eqb tag (rowTag r)) (found base r at start len) (absent r at)
 
-unfoldable pub fieldOf : List ℕ → ℕ → Row → ℕ → Field
-fieldOf v base r at = fieldFrom (headerOf (drop at v)) base r at
+unfoldable pub rowField : List ℕ → ℕ → Row → ℕ → Field
+rowField v base r at = fieldFrom (headerOf (drop at v)) base r at
 
 -- The fields of the rows from place `at` of the value v on: whether each is as its row asks and nothing follows the last, and their parts.
 unfoldable pub fieldsFrom : List ℕ → ℕ → List Row → ℕ → Bool × List Part
 fieldsFrom v base [] at = (eqb at (length v), [])
 fieldsFrom v base (r ∷ rs) at =
-    let f = fieldOf v base r at in
+    let f = rowField v base r at in
     let after = fieldsFrom v base rs (f .next) in
     (f .ok && after .0, f .part ∷ after .1)
 

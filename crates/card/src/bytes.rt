@@ -2,7 +2,7 @@
 ghost use mathlib.Core.Path.{_≡_};
 ghost use Prim.Native.Nat.{_+_, _≤_};
 ghost use lib.ListN.{length, getD, take, drop};
-ghost use Rattle.card.specs.Range.{written, sameBytes};
+ghost use Rattle.card.specs.Lists.{written, sameBytes};
 
 // Byte i, 0 past the end.
 pub(crate) fn byte(s: &[u8], i: usize) -> u8

@@ -4,7 +4,7 @@ use crate::object::Kind;
 ghost use mathlib.Core.Path.{_≡_};
 ghost use Prim.Native.Nat.{_+_, _≤_};
 ghost use lib.ListN.{length};
-ghost use Rattle.card.specs.Range.{stored};
+ghost use Rattle.card.specs.Lists.{overPlaces};
 ghost use Rattle.card.specs.Object.{objectTag};
 ghost use Rattle.card.specs.Command.{commandNumber, commandAnswer, selectOf, getDataOf, getResponseOf, statusOf};
 
@@ -33,7 +33,7 @@ impl CommandAnswer {
 // The bytes s, stored in out from place at on.
 fn put(out: &mut [u8], at: usize, s: &[u8])
     requires { ⌜ at + length (now s) ≤ length (now out) ⌝ }
-    ensures { λ r. ⌜ now (out .exit) ≡ stored (now (out .entry)) at (now (s .entry)) ⌝ }
+    ensures { λ r. ⌜ now (out .exit) ≡ overPlaces (now (out .entry)) at (now (s .entry)) ⌝ }
 {
     bytes::copy_run(out, at, s, 0, s.len());
 }

@@ -5,7 +5,7 @@ use crate::tlv::Header;
 ghost use mathlib.Core.Path.{_≡_};
 ghost use Prim.Native.Nat.{_+_, _≤_, _<_, _^_};
 ghost use lib.ListN.{length, take};
-ghost use Rattle.card.specs.Object.{mostFields, rowsOf, fieldOf, fieldsFrom, fieldsAnswer, objectNumber, objectAnswer, objectOf, partIn};
+ghost use Rattle.card.specs.Object.{mostFields, rowsOf, rowField, fieldsFrom, fieldsAnswer, objectNumber, objectAnswer, objectOf, partIn};
 
 // The objects that a reading asks for: 5FC102, 5FC104 and DFC103.
 pub enum Kind {
@@ -112,7 +112,7 @@ fn layout_of(kind: Kind) -> Layout
 // The field of a row at place `at` of the value v, which begins at `base` in the whole.
 fn next_field(v: &[u8], base: usize, row: Row, at: usize) -> Field
     requires { ⌜ (at ≤ length (now v)) × (base + length (now v) < 2 ^ 32) ⌝ }
-    ensures is { λ r. ⌜ r ≡ fieldOf (now (v .entry)) base row at ⌝ }
+    ensures is { λ r. ⌜ r ≡ rowField (now (v .entry)) base row at ⌝ }
     ensures inside { λ r. ⌜ r .next ≤ length (now (v .entry)) ⌝ }
 {
     let absent = Field {

@@ -12,13 +12,13 @@ use borrow.Author.Tests.{eqb-true, eqb-false, ltb-true, leb-true, le-leb, eq-eqb
 use lib.Dec.{eqb, leb, ltb, lit<}
 use lib.ListN.{length, getD, take, length-append, List·getD-append}
 use lib.Seq.{getD-at, take-at}
-use Rattle.card.specs.Range.{listOf, run, all}
+use Rattle.card.specs.Lists.{listOf, sliceOf, all}
 use Rattle.card.specs.Fascn.{decimalAt, keyOf}
-use Rattle.card.proofs.RangeLaws.{all-at, all-ext, getD-listOf, listOf-is, listOf-ext}
+use Rattle.card.proofs.ListsLaws.{all-at, all-ext, getD-listOf, listOf-is, listOf-ext}
 use Rattle.card.proofs.NumberLaws.{number-ext, number-lt, number-digit, number-mod}
 use Rattle.text.specs.Form.{between, betweenAt}
 use Rattle.text.proofs.FormLaws.{between-at, between-mark}
-use Rattle.ccl.specs.Line.{keyLimit, digitOf, cardOpens, space, between-groups, closes, cardText, lineOf, goodLine, goodCard, keyDigits, numberOf, keyIn}
+use Rattle.ccl.specs.Line.{keyLimit, digitOf, cardOpens, space, between-groups, closes, cardText, lineOf, goodLine, goodCard, keyDigits, keySpelled, lineKey}
 
 -- ---- lengths
 
@@ -54,7 +54,7 @@ line-good key = simp (digit-least key, digit-most key)
 
 -- its digits are those of the key
 digits-line : (key : ℕ) → keyDigits (lineOf key) ≡ listOf 16 (digitOf key)
-unfolding keyDigits run lineOf cardText listOf
+unfolding keyDigits sliceOf lineOf cardText listOf
 digits-line key = refl
 
 -- every byte before the 0A is higher
@@ -63,8 +63,8 @@ unfolding lineOf cardText listOf digitOf all
 above = refl
 
 -- "what is written is read back"
-pub key-line : (key : ℕ) → key < keyLimit → keyIn (lineOf key) ≡ key
-unfolding keyIn numberOf digitOf
+pub key-line : (key : ℕ) → key < keyLimit → lineKey (lineOf key) ≡ key
+unfolding lineKey keySpelled digitOf
 key-line key h =
     rw (digits-line key) (number-ext 10 16 digit ∙ number-mod 10 16 key (lit< tt) ∙ mod-eq-of-lt h)
   where
@@ -81,15 +81,15 @@ key-line key h =
 -- the line with given digits in ASCII
 unfoldable lineFrom : List ℕ → List ℕ
 lineFrom d =
-    cardOpens ++ run 0 4 d ++ space ++ run 4 4 d ++ space ++ run 8 6 d ++ between-groups ++ run 14 1 d ++ space ++ run 15 1 d ++ closes ++ (0x0A ∷ [])
+    cardOpens ++ sliceOf 0 4 d ++ space ++ sliceOf 4 4 d ++ space ++ sliceOf 8 6 d ++ between-groups ++ sliceOf 14 1 d ++ space ++ sliceOf 15 1 d ++ closes ++ (0x0A ∷ [])
 
 line-from : (key : ℕ) → lineOf key ≡ lineFrom (listOf 16 (digitOf key))
-unfolding lineFrom lineOf cardText run listOf
+unfolding lineFrom lineOf cardText sliceOf listOf
 line-from key = refl
 
 -- the line of the digits of s: the bytes of s where the lowest and the highest differ, and theirs where they do not
 from-digits : (s : List ℕ) → lineFrom (keyDigits s) ≡ listOf 32 (λ i. cond (eqb (low i) (high i)) (low i) (getD s i 0))
-unfolding lineFrom keyDigits lineOf cardText run listOf digitOf
+unfolding lineFrom keyDigits lineOf cardText sliceOf listOf digitOf
 from-digits s = refl
 
 -- the place of digit k in a line
@@ -97,12 +97,12 @@ abbrev place : ℕ → ℕ
 place k = getD (keyDigits (listOf 32 (λ i. i))) k 0
 
 digits-at : (s : List ℕ) → keyDigits s ≡ listOf 16 (λ k. getD s (place k) 0)
-unfolding keyDigits run listOf
+unfolding keyDigits sliceOf listOf
 digits-at s = refl
 
 -- digits stand there
 places : all 16 (λ k. ltb (place k) 31 && eqb (low (place k)) 48 && eqb (high (place k)) 57) ≡ true
-unfolding keyDigits run listOf lineOf cardText digitOf all
+unfolding keyDigits sliceOf listOf lineOf cardText digitOf all
 places = refl
 
 place-is : (k : ℕ) → k < 16 → (place k < 31) × (low (place k) ≡ 48) × (high (place k) ≡ 57)
@@ -145,18 +145,18 @@ module _ (s : List ℕ) (good : goodLine s ≡ true) where
       rw (digits-at s, getD-listOf 16 (λ k. getD s (place k) 0) k h) (rw (p .1) at (b .0), rw (p .2) at (b .1))
 
   -- "what is read is written back"
-  pub line-key : lineOf (keyIn s) ≡ s
-  unfolding keyIn numberOf digitOf keyDigits run listOf
-  line-key = line-from (keyIn s) ∙ ap lineFrom (listOf-is 16 (digitOf (keyIn s)) (keyDigits s) refl digit) ∙ good-from
+  pub line-key : lineOf (lineKey s) ≡ s
+  unfolding lineKey keySpelled digitOf keyDigits sliceOf listOf
+  line-key = line-from (lineKey s) ∙ ap lineFrom (listOf-is 16 (digitOf (lineKey s)) (keyDigits s) refl digit) ∙ good-from
     where
-      digit : (k : ℕ) → k < 16 → digitOf (keyIn s) k ≡ getD (keyDigits s) k 0
+      digit : (k : ℕ) → k < 16 → digitOf (lineKey s) k ≡ getD (keyDigits s) k 0
       digit k h =
           let e : 15 - k ≡ 16 - suc k = omega arith in
           let f : ℕ → ℕ = λ k. getD (keyDigits s) k 0 % 16 in
           rw (e, number-digit 10 16 f (λ k h. omega (arith, good-digit k h)) k h) (omega (arith, good-digit k h))
 
-  pub key-small : keyIn s < keyLimit
-  unfolding keyIn numberOf
+  pub key-small : lineKey s < keyLimit
+  unfolding lineKey keySpelled
   key-small = number-lt 10 16 (λ k. getD (keyDigits s) k 0 % 16) (λ k h. omega (arith, good-digit k h))
 
 -- ---- a card's text
@@ -190,10 +190,10 @@ unfolding goodLine goodCard lineOf
 card-line s = between-last (cardText 0) (cardText 9999999999999999) s 31 0x0A (length-card 0) (length-card 9999999999999999)
 
 -- with the same key
-pub key-card-line : (s : List ℕ) → length s ≡ 31 → keyIn (s ++ (0x0A ∷ [])) ≡ keyIn s
-unfolding keyIn
+pub key-card-line : (s : List ℕ) → length s ≡ 31 → lineKey (s ++ (0x0A ∷ [])) ≡ lineKey s
+unfolding lineKey
 key-card-line s e =
-    ap numberOf (digits-at (ended s 0x0A)
+    ap keySpelled (digits-at (ended s 0x0A)
     ∙ listOf-ext 16 (λ k h. List·getD-append s (0x0A ∷ []) 0 (place k) (omega (arith, place-is k h)))
     ∙ sym (digits-at s))
 
@@ -202,7 +202,7 @@ pub card-good : (key : ℕ) → goodCard (cardText key) ≡ true
 unfolding lineOf
 card-good key = sym (card-line (cardText key)) ∙ line-good key
 
-pub key-card : (key : ℕ) → key < keyLimit → keyIn (cardText key) ≡ key
+pub key-card : (key : ℕ) → key < keyLimit → lineKey (cardText key) ≡ key
 unfolding lineOf
 key-card key h = sym (key-card-line (cardText key) (length-card key)) ∙ key-line key h
 
@@ -213,14 +213,14 @@ module _ (s : List ℕ) (good : goodCard s ≡ true) where
   pub card-length : length s ≡ 31
   card-length = omega (arith, length-append s (0x0A ∷ []), good-length (ended s 0x0A) as-line)
 
-  pub card-key : cardText (keyIn s) ≡ s
+  pub card-key : cardText (lineKey s) ≡ s
   unfolding lineOf
   card-key =
-      sym (take-at (cardText (keyIn s)) (0x0A ∷ []) 31 (length-card (keyIn s)))
+      sym (take-at (cardText (lineKey s)) (0x0A ∷ []) 31 (length-card (lineKey s)))
       ∙ rw (← key-card-line s card-length) (ap (take 31) (line-key (ended s 0x0A) as-line))
       ∙ take-at s (0x0A ∷ []) 31 card-length
 
-  pub card-small : keyIn s < keyLimit
+  pub card-small : lineKey s < keyLimit
   card-small = rw (key-card-line s card-length) at (key-small (ended s 0x0A) as-line)
 
 -- ---- the line of a card's own key

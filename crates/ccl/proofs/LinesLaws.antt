@@ -7,10 +7,10 @@ use native.Mathlib.Numerals.{add-one}
 use native.Mathlib.Omega.{arith}
 use lib.ListN.{length, getD, take, drop, length-append, length-drop}
 use lib.Seq.{take-suc, length-take-le}
-use Rattle.card.specs.Range.{front, stored}
-use Rattle.card.proofs.RangeLaws.{stored-next}
+use Rattle.card.specs.Lists.{overFront, overPlaces}
+use Rattle.card.proofs.ListsLaws.{stored-next}
 use Rattle.ccl.specs.Line.{lineOf}
-use Rattle.ccl.specs.ListText.{lineAt, textOf}
+use Rattle.ccl.specs.ListText.{lineAt, linesOf}
 use Rattle.ccl.proofs.LineLaws.{length-line}
 
 -- ---- a line of a text
@@ -28,27 +28,27 @@ length-part text i h =
 -- ---- the text of keys
 
 -- 32 bytes a key
-pub length-text : (keys : List ℕ) → length (textOf keys) ≡ 32 * length keys
-unfolding textOf
+pub length-text : (keys : List ℕ) → length (linesOf keys) ≡ 32 * length keys
+unfolding linesOf
 length-text [] = refl
 length-text (key ∷ keys) = rw (length-append, length-line key, length-text keys) (omega arith)
 
 -- the length of the text of the first i keys
-pub length-first : (keys : List ℕ) (i : ℕ) → i ≤ length keys → length (textOf (take i keys)) ≡ 32 * i
+pub length-first : (keys : List ℕ) (i : ℕ) → i ≤ length keys → length (linesOf (take i keys)) ≡ 32 * i
 length-first keys i h = rw (length-text, length-take-le i keys h)
 
-pub text-append : (a b : List ℕ) → textOf (a ++ b) ≡ textOf a ++ textOf b
-unfolding textOf
+pub text-append : (a b : List ℕ) → linesOf (a ++ b) ≡ linesOf a ++ linesOf b
+unfolding linesOf
 text-append [] b = refl
 text-append (key ∷ a) b = rw (text-append a b, append-assoc)
 
-text-more : (keys : List ℕ) (i : ℕ) → i < length keys → textOf (take (i + 1) keys) ≡ textOf (take i keys) ++ lineOf (getD keys i 0)
-unfolding textOf
+text-more : (keys : List ℕ) (i : ℕ) → i < length keys → linesOf (take (i + 1) keys) ≡ linesOf (take i keys) ++ lineOf (getD keys i 0)
+unfolding linesOf
 text-more keys i h = rw (add-one, take-suc keys i 0 h, text-append (take i keys) (getD keys i 0 ∷ []), append-nil)
 
 -- the text of the first i keys stands in front, and the line of key i is stored after it
-pub line-stored : (keys d : List ℕ) (i : ℕ) {l s : List ℕ} → i < length keys → l ≡ front (textOf (take i keys)) d → s ≡ lineOf (getD keys i 0)
-    → stored l (32 * i) s ≡ front (textOf (take (i + 1) keys)) d
+pub line-stored : (keys d : List ℕ) (i : ℕ) {l s : List ℕ} → i < length keys → l ≡ overFront (linesOf (take i keys)) d → s ≡ lineOf (getD keys i 0)
+    → overPlaces l (32 * i) s ≡ overFront (linesOf (take (i + 1) keys)) d
 line-stored keys d i h p q =
     rw (text-more keys i h, q)
-    (stored-next (textOf (take i keys)) (lineOf (getD keys i 0)) d p (sym (length-first keys i (omega arith))))
+    (stored-next (linesOf (take i keys)) (lineOf (getD keys i 0)) d p (sym (length-first keys i (omega arith))))

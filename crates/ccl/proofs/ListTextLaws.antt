@@ -13,10 +13,10 @@ use borrow.Author.Tests.{eqb-true, ltb-true, ltb-false, lt-ltb, le-ltb, eq-eqb, 
 use lib.Dec.{eqb, ltb, lit<}
 use lib.ListN.{length, getD, take, drop, List·getD-eq-default, length-take, length-drop}
 use lib.Seq.{take-at, drop-append-add, take-add, take-length, getD-take, getD-drop}
-use Rattle.card.specs.Range.{listOf, front, written}
-use Rattle.card.proofs.RangeLaws.{all-at, all-of, listOf-is, length-listOf, getD-listOf}
-use Rattle.ccl.specs.Line.{keyLimit, digitOf, cardText, lineOf, goodLine, keyIn}
-use Rattle.ccl.specs.ListText.{lineAt, goodLines, wellFormed, keyAt, readRefusal, readOf, keysThen, smallKeys, writeRefusal, writeOf, textOf, textThen}
+use Rattle.card.specs.Lists.{listOf, overFront, written}
+use Rattle.card.proofs.ListsLaws.{all-at, all-of, listOf-is, length-listOf, getD-listOf}
+use Rattle.ccl.specs.Line.{keyLimit, digitOf, cardText, lineOf, goodLine, lineKey}
+use Rattle.ccl.specs.ListText.{lineAt, goodLines, wellFormed, keyAt, readRefusal, readOf, keysAfter, smallKeys, writeRefusal, writeOf, linesOf, textAfter}
 use Rattle.ccl.proofs.PassingLaws.{passing-is, passing-all}
 use Rattle.ccl.proofs.LineLaws.{length-line, line-good, key-line, line-key, key-small, good-length, only-end}
 use Rattle.ccl.proofs.LinesLaws.{length-text, text-append}
@@ -24,49 +24,49 @@ use Rattle.ccl.proofs.LinesLaws.{length-text, text-append}
 -- ---- the text of keys
 
 -- its lines are those of the keys
-pub line-text : (keys : List ℕ) (i : ℕ) → i < length keys → lineAt (textOf keys) i ≡ lineOf (getD keys i 0)
-unfolding textOf lineAt
+pub line-text : (keys : List ℕ) (i : ℕ) → i < length keys → lineAt (linesOf keys) i ≡ lineOf (getD keys i 0)
+unfolding linesOf lineAt
 line-text [] i h = absurd (omega arith)
-line-text (key ∷ keys) zero h = take-at (lineOf key) (textOf keys) 32 (length-line key)
+line-text (key ∷ keys) zero h = take-at (lineOf key) (linesOf keys) 32 (length-line key)
 line-text (key ∷ keys) (suc i) h =
     let e : 32 * suc i ≡ length (lineOf key) + 32 * i = omega (arith, length-line key) in
-    rw (e, drop-append-add (lineOf key) (textOf keys) (32 * i)) (line-text keys i (omega arith))
+    rw (e, drop-append-add (lineOf key) (linesOf keys) (32 * i)) (line-text keys i (omega arith))
 
 -- it is well formed, with a good line for each key, whatever the keys are
-pub lines-text : (keys : List ℕ) → goodLines (textOf keys) ≡ length keys
+pub lines-text : (keys : List ℕ) → goodLines (linesOf keys) ≡ length keys
 unfolding goodLines
 lines-text keys =
-    let e : length (textOf keys) / 32 ≡ length keys = omega (arith, length-text keys) in
-    rw e (passing-all (length keys) (λ i. goodLine (lineAt (textOf keys) i)) (λ i h. rw (line-text keys i h) (line-good (getD keys i 0))))
+    let e : length (linesOf keys) / 32 ≡ length keys = omega (arith, length-text keys) in
+    rw e (passing-all (length keys) (λ i. goodLine (lineAt (linesOf keys) i)) (λ i h. rw (line-text keys i h) (line-good (getD keys i 0))))
 
-pub well-text : (keys : List ℕ) → wellFormed (textOf keys) ≡ true
+pub well-text : (keys : List ℕ) → wellFormed (linesOf keys) ≡ true
 unfolding wellFormed
-well-text keys = eq-eqb (32 * goodLines (textOf keys)) (length (textOf keys)) (rw (lines-text keys) (sym (length-text keys)))
+well-text keys = eq-eqb (32 * goodLines (linesOf keys)) (length (linesOf keys)) (rw (lines-text keys) (sym (length-text keys)))
 
 -- "what is written is read back": keys below the limit are found again in their text
 module _ (keys : List ℕ) (small : smallKeys keys ≡ true) where
-  pub key-text : (i : ℕ) → i < length keys → keyAt (textOf keys) i ≡ getD keys i 0
+  pub key-text : (i : ℕ) → i < length keys → keyAt (linesOf keys) i ≡ getD keys i 0
   unfolding keyAt smallKeys
   key-text i h =
       rw (line-text keys i h) (key-line (getD keys i 0) (ltb-true (getD keys i 0) keyLimit (all-at (λ i. ltb (getD keys i 0) keyLimit) (length keys) small i h)))
 
-  pub written-read : (wellFormed (textOf keys) ≡ true) × (goodLines (textOf keys) ≡ length keys)
-      × ((i : ℕ) → i < length keys → keyAt (textOf keys) i ≡ getD keys i 0)
+  pub written-read : (wellFormed (linesOf keys) ≡ true) × (goodLines (linesOf keys) ≡ length keys)
+      × ((i : ℕ) → i < length keys → keyAt (linesOf keys) i ≡ getD keys i 0)
   written-read = (well-text keys, lines-text keys, key-text)
 
   -- and are read into places that are enough, those past the last key staying as they were
   module _ (out : List ℕ) (fits : length keys ≤ length out) where
-    accepted : readRefusal (textOf keys) (length out) ≡ 0
+    accepted : readRefusal (linesOf keys) (length out) ≡ 0
     unfolding readRefusal
     accepted = rw (well-text keys, lines-text keys, le-ltb (length out) (length keys) fits)
 
-    pub read-text : readOf (textOf keys) (length out) ≡ (0, length keys)
+    pub read-text : readOf (linesOf keys) (length out) ≡ (0, length keys)
     unfolding readOf
     read-text = rw (accepted, lines-text keys)
 
-    pub keys-text : keysThen (textOf keys) out ≡ front keys out
-    unfolding keysThen written front
-    keys-text = rw (accepted, lines-text keys, zero-add, listOf-is (length keys) (keyAt (textOf keys)) keys refl key-text)
+    pub keys-text : keysAfter (linesOf keys) out ≡ overFront keys out
+    unfolding keysAfter written overFront
+    keys-text = rw (accepted, lines-text keys, zero-add, listOf-is (length keys) (keyAt (linesOf keys)) keys refl key-text)
 
 -- ---- the lines of a text and their keys
 
@@ -105,8 +105,8 @@ module _ (text : List ℕ) where
       (all-of _ (goodLines text) (λ i h. rw (getD-listOf (goodLines text) (keyAt text) i h) (lt-ltb (keyAt text i) keyLimit (small-read i h))))
 
   -- the lines of the first n keys are the first n lines
-  first-lines : (n : ℕ) → n ≤ goodLines text → textOf (listOf n (keyAt text)) ≡ take (32 * n) text
-  unfolding textOf listOf keyAt lineAt
+  first-lines : (n : ℕ) → n ≤ goodLines text → linesOf (listOf n (keyAt text)) ≡ take (32 * n) text
+  unfolding linesOf listOf keyAt lineAt
   first-lines zero h = refl
   first-lines (suc n) h =
       let e : 32 * suc n ≡ 32 * n + 32 = omega arith in
@@ -119,7 +119,7 @@ module _ (text : List ℕ) (well : wellFormed text ≡ true) where
   well-length = eqb-true (32 * goodLines text) (length text) well
 
   -- "what is read is written back"
-  pub read-written : textOf (keysOf text) ≡ text
+  pub read-written : linesOf (keysOf text) ≡ text
   read-written = first-lines text (goodLines text) (omega arith) ∙ rw well-length (take-length text)
 
   -- the keys of a text are written into bytes that are enough, and are that text again
@@ -133,8 +133,8 @@ module _ (text : List ℕ) (well : wellFormed text ≡ true) where
     unfolding writeOf
     write-keys = rw (allowed, length-listOf (goodLines text) (keyAt text))
 
-    pub text-keys : textThen (keysOf text) out ≡ front text out
-    unfolding textThen
+    pub text-keys : textAfter (keysOf text) out ≡ overFront text out
+    unfolding textAfter
     text-keys = rw (allowed, read-written)
 
 -- ---- the count of keys
@@ -158,10 +158,10 @@ line-ends : (key : ℕ) → occurrences 0x0A (lineOf key) ≡ 1
 unfolding occurrences lineOf cardText listOf
 line-ends key = simp (digit-no-end key)
 
-pub text-ends : (keys : List ℕ) → occurrences 0x0A (textOf keys) ≡ length keys
-unfolding textOf occurrences
+pub text-ends : (keys : List ℕ) → occurrences 0x0A (linesOf keys) ≡ length keys
+unfolding linesOf occurrences
 text-ends [] = refl
-text-ends (key ∷ keys) = rw (occurrences-append 0x0A (lineOf key) (textOf keys), line-ends key, text-ends keys) (omega arith)
+text-ends (key ∷ keys) = rw (occurrences-append 0x0A (lineOf key) (linesOf keys), line-ends key, text-ends keys) (omega arith)
 
 -- the lines of a well-formed text are as many as its 0A bytes
 pub count-lines : (text : List ℕ) → wellFormed text ≡ true → goodLines text ≡ occurrences 0x0A text
@@ -222,7 +222,7 @@ module _ (text : List ℕ) (well : wellFormed text ≡ true) where
     unfolding keyAt
     found-at i = (
       λ p. (omega (arith, p .0, well-length text well), sym (line-key (lineAt text i) (good-line text i (p .0))) ∙ ap lineOf (p .1)),
-      λ p. (omega (arith, p .0, well-length text well), ap keyIn (p .1) ∙ key-line key small),
+      λ p. (omega (arith, p .0, well-length text well), ap lineKey (p .1) ∙ key-line key small),
     )
 
     -- the key stands in the list exactly where its line stands in the text

@@ -4,7 +4,7 @@ use mathlib.Core.Bool.{Bool, cond}
 use mathlib.Core.List.{List, [], _∷_, _++_}
 use Prim.Native.Nat.{ℕ, _+_, _-_, _/_, _%_, _^_}
 use lib.ListN.{getD}
-use Rattle.card.specs.Range.{listOf, run, number}
+use Rattle.card.specs.Lists.{listOf, sliceOf, number}
 use Rattle.text.specs.Form.{between}
 use Rattle.ccl.specs.declared.line.CardKey.{CardKey}
 use Rattle.ccl.specs.declared.line.CardKey.the-variants.{Card, Malformed}
@@ -55,13 +55,13 @@ goodCard s = between (cardText 0) (cardText 9999999999999999) s
 
 -- The bytes at the digits' places, and the number that they spell: the value of an ASCII digit is its low four bits.
 unfoldable pub keyDigits : List ℕ → List ℕ
-keyDigits s = run 7 4 s ++ run 12 4 s ++ run 17 6 s ++ run 26 1 s ++ run 28 1 s
+keyDigits s = sliceOf 7 4 s ++ sliceOf 12 4 s ++ sliceOf 17 6 s ++ sliceOf 26 1 s ++ sliceOf 28 1 s
 
-unfoldable pub numberOf : List ℕ → ℕ
-numberOf d = number 10 16 (λ k. getD d k 0 % 16)
+unfoldable pub keySpelled : List ℕ → ℕ
+keySpelled d = number 10 16 (λ k. getD d k 0 % 16)
 
-unfoldable pub keyIn : List ℕ → ℕ
-keyIn s = numberOf (keyDigits s)
+unfoldable pub lineKey : List ℕ → ℕ
+lineKey s = keySpelled (keyDigits s)
 
 -- ---- the answer of the code: document 01's number of each case, and the key beside it
 
@@ -70,4 +70,4 @@ cardAnswer (Card key) = (0, key)
 cardAnswer Malformed = (20, 0)
 
 unfoldable pub cardOf : List ℕ → ℕ × ℕ
-cardOf s = cond (goodCard s) (0, keyIn s) (20, 0)
+cardOf s = cond (goodCard s) (0, lineKey s) (20, 0)

@@ -6,9 +6,9 @@ use mathlib.Core.List.{List, [], _∷_, _++_}
 use Prim.Native.Nat.{ℕ, zero, suc, _+_, _*_, _/_}
 use lib.Dec.{eqb, ltb}
 use lib.ListN.{length, getD, take, drop}
-use Rattle.card.specs.Range.{all, front, written}
+use Rattle.card.specs.Lists.{all, overFront, written}
 use Rattle.card.specs.Refusal.{refusalOf}
-use Rattle.ccl.specs.Line.{keyLimit, goodLine, keyIn, lineOf}
+use Rattle.ccl.specs.Line.{keyLimit, goodLine, lineKey, lineOf}
 use Rattle.ccl.specs.declared.list.ListRead.{ListRead}
 use Rattle.ccl.specs.declared.list.ListRead.the-variants as list-read
 use Rattle.ccl.specs.declared.list.ListWritten.{ListWritten}
@@ -38,7 +38,7 @@ wellFormed text = eqb (lineSize * goodLines text) (length text)
 
 -- The key of line i.
 unfoldable pub keyAt : List ℕ → ℕ → ℕ
-keyAt text i = keyIn (lineAt text i)
+keyAt text i = lineKey (lineAt text i)
 
 -- ---- read
 
@@ -53,8 +53,8 @@ unfoldable pub readOf : List ℕ → ℕ → ℕ × ℕ
 readOf text room = besideRead (readRefusal text room) (goodLines text)
 
 -- The places then.
-unfoldable pub keysThen : List ℕ → List ℕ → List ℕ
-keysThen text keys = cond (eqb (readRefusal text (length keys)) 0) (written keys 0 (goodLines text) (keyAt text)) keys
+unfoldable pub keysAfter : List ℕ → List ℕ → List ℕ
+keysAfter text keys = cond (eqb (readRefusal text (length keys)) 0) (written keys 0 (goodLines text) (keyAt text)) keys
 
 -- ---- write
 
@@ -69,13 +69,13 @@ unfoldable pub writeOf : List ℕ → ℕ → ℕ × ℕ
 writeOf keys room = let k = writeRefusal keys room in (k, cond (eqb k 0) (length keys) 0)
 
 -- The lines of the keys, one after another.
-unfoldable pub textOf : List ℕ → List ℕ
-textOf [] = []
-textOf (key ∷ keys) = lineOf key ++ textOf keys
+unfoldable pub linesOf : List ℕ → List ℕ
+linesOf [] = []
+linesOf (key ∷ keys) = lineOf key ++ linesOf keys
 
 -- The bytes then.
-unfoldable pub textThen : List ℕ → List ℕ → List ℕ
-textThen keys out = cond (eqb (writeRefusal keys (length out)) 0) (front (textOf keys) out) out
+unfoldable pub textAfter : List ℕ → List ℕ → List ℕ
+textAfter keys out = cond (eqb (writeRefusal keys (length out)) 0) (overFront (linesOf keys) out) out
 
 -- ---- the answers of the code: document 01's number of each case, and the number beside it
 

@@ -2,8 +2,8 @@
 ghost use mathlib.Core.Path.{_≡_};
 ghost use Prim.Native.Nat.{_<_};
 ghost use lib.ListN.{length};
-ghost use Rattle.card.specs.Range.{listOf};
-ghost use Rattle.ccl.specs.Line.{digitOf, lineOf, keyDigits, numberOf, keyIn, cardAnswer, cardOf};
+ghost use Rattle.card.specs.Lists.{listOf};
+ghost use Rattle.ccl.specs.Line.{digitOf, lineOf, keyDigits, keySpelled, lineKey, cardAnswer, cardOf};
 use text::form;
 
 // What card_key answers: the key, or that the text is no card's. `cardAnswer` gives document 01's number of each.
@@ -13,7 +13,7 @@ pub enum CardKey {
 }
 
 // The bytes at the places of the digits in a line, or in a line without its 0A.
-fn digits_in(s: &[u8]) -> [u8; 16]
+fn key_digits(s: &[u8]) -> [u8; 16]
     requires { ⌜ 28 < length (now s) ⌝ }
     ensures { λ r. ⌜ r ≡ keyDigits (now (s .entry)) ⌝ }
 {
@@ -38,8 +38,8 @@ fn digits_in(s: &[u8]) -> [u8; 16]
 }
 
 // The number that 16 digits spell.
-fn number_of(d: &[u8; 16]) -> u64
-    ensures { λ r. ⌜ r ≡ numberOf (now (d .entry)) ⌝ }
+fn key_spelled(d: &[u8; 16]) -> u64
+    ensures { λ r. ⌜ r ≡ keySpelled (now (d .entry)) ⌝ }
 {
     let mut n: u64 = 0;
     for k in 0..16 {
@@ -49,12 +49,12 @@ fn number_of(d: &[u8; 16]) -> u64
 }
 
 // The key in a line, or in a line without its 0A.
-pub(crate) fn key_in(s: &[u8]) -> u64
+pub(crate) fn line_key(s: &[u8]) -> u64
     requires { ⌜ 28 < length (now s) ⌝ }
-    ensures { λ r. ⌜ r ≡ keyIn (now (s .entry)) ⌝ }
+    ensures { λ r. ⌜ r ≡ lineKey (now (s .entry)) ⌝ }
 {
-    let d = digits_in(s);
-    number_of(&d)
+    let d = key_digits(s);
+    key_spelled(&d)
 }
 
 // The key of a card's text, that is of a line without its 0A.
@@ -66,7 +66,7 @@ pub fn card_key(s: &[u8]) -> CardKey
         b"(card (9999 9999 999999) (9 9))",
         s,
     ) {
-        CardKey::Card(key_in(s))
+        CardKey::Card(line_key(s))
     } else {
         CardKey::Malformed
     }

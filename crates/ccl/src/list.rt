@@ -2,9 +2,9 @@
 ghost use mathlib.Core.Path.{_≡_};
 ghost use Prim.Native.Nat.{_+_, _*_, _/_, _≤_};
 ghost use lib.ListN.{length};
-ghost use Rattle.card.specs.Range.{front, written, stored};
+ghost use Rattle.card.specs.Lists.{overFront, written, overPlaces};
 ghost use Rattle.text.specs.Form.{between};
-ghost use Rattle.ccl.specs.ListText.{goodLines, keyAt, readAnswer, readOf, keysThen, smallKeys, textOf, writeAnswer, writeOf, textThen};
+ghost use Rattle.ccl.specs.ListText.{goodLines, keyAt, readAnswer, readOf, keysAfter, smallKeys, linesOf, writeAnswer, writeOf, textAfter};
 use crate::line;
 
 // What read answers: how many keys, the number of the first malformed line, or that the places are too few. `readAnswer` gives document 01's number of each.
@@ -87,14 +87,14 @@ fn put_keys(text: &[u8], n: usize, keys: &mut [u64])
     for i in 0..n {
         let at = 32 * i;
         let end = at + 32;
-        keys[i] = line::key_in(&text[at..end]);
+        keys[i] = line::line_key(&text[at..end]);
     }
 }
 
 // The keys of a list's text, in its order, stored at the front of keys. The whole text is judged first.
 pub fn read(text: &[u8], keys: &mut [u64]) -> ListRead
     ensures { λ r. ⌜ readAnswer r ≡ readOf (now (text .entry)) (length (now (keys .entry))) ⌝ }
-    ensures { λ r. ⌜ now (keys .exit) ≡ keysThen (now (text .entry)) (now (keys .entry)) ⌝ }
+    ensures { λ r. ⌜ now (keys .exit) ≡ keysAfter (now (text .entry)) (now (keys .entry)) ⌝ }
 {
     let n = good_lines(text);
     if 32 * n != text.len() {
@@ -121,7 +121,7 @@ fn small_keys(keys: &[u64]) -> bool
 // A line stored in out from place `at` on.
 fn put_line(out: &mut [u8], at: usize, line: &[u8; 32])
     requires { ⌜ (at + 32 ≤ length (now out)) × (length (now line) ≡ 32) ⌝ }
-    ensures { λ r. ⌜ now (out .exit) ≡ stored (now (out .entry)) at (now (line .entry)) ⌝ }
+    ensures { λ r. ⌜ now (out .exit) ≡ overPlaces (now (out .entry)) at (now (line .entry)) ⌝ }
 {
     for j in 0..32 {
         out[at + j] = line[j];
@@ -131,7 +131,7 @@ fn put_line(out: &mut [u8], at: usize, line: &[u8; 32])
 // The lines of the keys, stored at the front of out.
 fn put_lines(keys: &[u64], out: &mut [u8])
     requires { ⌜ length (now keys) ≤ length (now out) / 32 ⌝ }
-    ensures { λ r. ⌜ now (out .exit) ≡ front (textOf (now (keys .entry))) (now (out .entry)) ⌝ }
+    ensures { λ r. ⌜ now (out .exit) ≡ overFront (linesOf (now (keys .entry))) (now (out .entry)) ⌝ }
 {
     for i in 0..keys.len() {
         let line = line::line_of(keys[i]);
@@ -142,7 +142,7 @@ fn put_lines(keys: &[u64], out: &mut [u8])
 // The text of a list of keys, stored at the front of out.
 pub fn write(keys: &[u64], out: &mut [u8]) -> ListWritten
     ensures { λ r. ⌜ writeAnswer r ≡ writeOf (now (keys .entry)) (length (now (out .entry))) ⌝ }
-    ensures { λ r. ⌜ now (out .exit) ≡ textThen (now (keys .entry)) (now (out .entry)) ⌝ }
+    ensures { λ r. ⌜ now (out .exit) ≡ textAfter (now (keys .entry)) (now (out .entry)) ⌝ }
 {
     if !small_keys(keys) {
         return ListWritten::KeyTooLarge;

@@ -8,22 +8,22 @@ use native.Mathlib.Omega.{arith}
 use borrow.Author.Tests.{eqb-true, not-false, leb-true}
 use lib.Dec.{eqb, leb}
 use lib.ListN.{length, getD, take, drop, length-append}
-use Rattle.card.specs.Range.{stored}
+use Rattle.card.specs.Lists.{overPlaces}
 use Rattle.card.specs.Command.{statusOf}
 use Rattle.card.specs.declared.command.Status.{Status}
 use Rattle.card.specs.declared.command.Status.the-variants.{Done, More, Other}
 use Rattle.session.specs.Tables.{baseOf, objectSize, isResponse, joinedCause}
 use Rattle.session.specs.Condition.{answerConditions}
-use Rattle.session.specs.Reading.{Found, Reading, withCourse, answerRefused, stopped, continued, judged, appended, causeBy, answered}
+use Rattle.session.specs.Reading.{Found, Reading, withProgress, answerRefused, stopped, continued, judged, appended, causeBy, answerTaken}
 use Rattle.session.specs.Ranges.{causeInRange}
-use Rattle.session.specs.Operation.{withProgress, ended, more, joinedIn, judgedSession, appendedSession, takenSession, takenBuffer, answerRefusal}
+use Rattle.session.specs.Operation.{withSessionProgress, progressStopped, progressContinued, joinedIn, judgedSession, appendedSession, answerTakenSession, answerTakenBuffer, answerRefusal}
 use Rattle.session.specs.Tables.{statusShown}
 use Rattle.session.specs.Promise.{Bytes}
 use Rattle.session.proofs.TestLaws.{clash, and-left, and-right, by-test}
 use Rattle.session.proofs.ConditionLaws.{none-fit}
 use Rattle.session.proofs.RuleLaws.{rule-in-range, rule-fits, joined-in-range}
 use Rattle.session.proofs.BytesLaws.{append-bytes}
-use Rattle.session.proofs.Invariant.{session-of, progress-of, Kept, GoodOne, OneKept, TwoKept, Stage, Invariant, Leads}
+use Rattle.session.proofs.Invariant.{session-of, progress-of, Held, GoodOne, OneHeld, TwoHeld, Stage, Invariant, StandsFor}
 use Rattle.session.proofs.InRangeLaws.{in-range}
 use Rattle.session.proofs.BufferLaws.{holds-more, holds-still, before-stays, stored-length, base-most}
 use Rattle.session.proofs.GoodEndLaws.{Leaves, good-end}
@@ -39,16 +39,16 @@ shown-none : (b : Bool) → cond {A = ℕ} b 0 0 ≡ 0
 shown-none true = refl
 shown-none false = refl
 
-stops : (r : Reading) (m m′ : List ℕ) (k sw1 sw2 : ℕ) → Invariant r m → Leaves r m′ → r .course .step < 3 → causeInRange k ≡ true
+stops : (r : Reading) (m m′ : List ℕ) (k sw1 sw2 : ℕ) → Invariant r m → Leaves r m′ → r .progress .step < 3 → causeInRange k ≡ true
     → statusShown k sw1 ≡ sw1 → statusShown k sw2 ≡ sw2
-    → Leads (withProgress (session-of r) (ended (progress-of (r .course)) k sw1 sw2)) m′ (withCourse r (stopped (r .course) k sw1 sw2))
+    → StandsFor (withSessionProgress (session-of r) (progressStopped (progress-of (r .progress)) k sw1 sw2)) m′ (withProgress r (stopped (r .progress) k sw1 sw2))
 stops r m m′ k sw1 sw2 i l lt c p q =
     record {
       object = m′;
       same = refl;
       holds = record {
         opening = i .opening;
-        course-good = record { step = i .course-good .step; filled = i .course-good .filled; cause = c; outstanding = refl; no-cause = λ e. absurd (omega arith); shown1 = p; shown2 = q; bytes = i .course-good .bytes };
+        progress-good = record { step = i .progress-good .step; filled = i .progress-good .filled; cause = c; outstanding = refl; no-cause = λ e. absurd (omega arith); shown1 = p; shown2 = q; bytes = i .progress-good .bytes };
         held = l .held;
         one = l .one;
         two = l .two;
@@ -59,34 +59,34 @@ stops r m m′ k sw1 sw2 i l lt c p q =
 
 -- ---- the joined data is judged
 
-judges : (r : Reading) (m m′ : List ℕ) (xs cancelled : List ℕ) → Invariant r m → Leaves r m′ → r .course .step < 3 → length xs ≤ 4096 → Bytes xs
-    → take (length xs) (drop (baseOf (r .course .step)) m′) ≡ xs
-    → Leads (judgedSession (session-of r) xs cancelled) m′ (judged r xs cancelled)
+judges : (r : Reading) (m m′ : List ℕ) (xs cancelled : List ℕ) → Invariant r m → Leaves r m′ → r .progress .step < 3 → length xs ≤ 4096 → Bytes xs
+    → take (length xs) (drop (baseOf (r .progress .step)) m′) ≡ xs
+    → StandsFor (judgedSession (session-of r) xs cancelled) m′ (judged r xs cancelled)
 unfolding judgedSession judged
 judges r m m′ xs cancelled i l lt small b held =
-    let k = joinedCause (r .opening .mode) (r .course .step) xs in
-    by-test (λ (s : Session) (q : Reading). Leads s m′ q) _ _ _ _ (eqb (joinedCause (r .opening .mode) (r .course .step) xs) 0)
+    let k = joinedCause (r .opening .mode) (r .progress .step) xs in
+    by-test (λ (s : Session) (q : Reading). StandsFor s m′ q) _ _ _ _ (eqb (joinedCause (r .opening .mode) (r .progress .step) xs) 0)
     (λ e. good-end r m m′ xs cancelled i l lt small b held (eqb-true _ 0 e))
-    (λ e. stops r m m′ k 0 0 i l lt (joined-in-range (r .opening .mode) (r .course .step) xs) (shown-none (eqb k 16)) (shown-none (eqb k 16)))
+    (λ e. stops r m m′ k 0 0 i l lt (joined-in-range (r .opening .mode) (r .progress .step) xs) (shown-none (eqb k 16)) (shown-none (eqb k 16)))
 
 -- ---- what an answer that is taken leaves in the buffer
 
 -- what was found before a step is read stays as it is
-keep-one : (mode step at : ℕ) (f : Found) (m xs : List ℕ) → Stage step f → step < 3 → baseOf step + at + length xs ≤ length m → OneKept mode (f .first) m
-    → OneKept mode (f .first) (stored m (baseOf step + at) xs)
-keep-one mode step at f m xs (Stage.early l n) lt room old = subst (λ (x : Found). OneKept mode (x .first) (stored m (baseOf step + at) xs)) (sym n) tt
+keep-one : (mode step at : ℕ) (f : Found) (m xs : List ℕ) → Stage step f → step < 3 → baseOf step + at + length xs ≤ length m → OneHeld mode (f .step1) m
+    → OneHeld mode (f .step1) (overPlaces m (baseOf step + at) xs)
+keep-one mode step at f m xs (Stage.early l n) lt room old = subst (λ (x : Found). OneHeld mode (x .step1) (overPlaces m (baseOf step + at) xs)) (sym n) tt
 keep-one mode step at f m xs (Stage.between e one n) lt room old =
-    let was : GoodOne mode one × Kept (one .joined) m 0 = subst (λ (x : Found). OneKept mode (x .first) m) n old in
+    let was : GoodOne mode one × Held (one .joined) m 0 = subst (λ (x : Found). OneHeld mode (x .step1) m) n old in
     let k = was .1 in
     let b : baseOf step ≡ 4096 = ap baseOf e in
     let small : length (one .joined) ≤ 4096 = k .small in
-    subst (λ (x : Found). OneKept mode (x .first) (stored m (baseOf step + at) xs)) (sym n)
+    subst (λ (x : Found). OneHeld mode (x .step1) (overPlaces m (baseOf step + at) xs)) (sym n)
     (was .0, record { whole = stored-length m xs (baseOf step + at) room ∙ k .whole; small = small; held = before-stays m xs (length (one .joined)) (baseOf step + at) (omega arith) (omega arith) ∙ k .held })
 keep-one mode step at f m xs (Stage.late e one n) lt room old = absurd (omega arith)
 
-keep-two : (step : ℕ) (f : Found) (m : List ℕ) → Stage step f → step < 3 → TwoKept (f .second) m
-keep-two step f m (Stage.early l n) lt = subst (λ (x : Found). TwoKept (x .second) m) (sym n) tt
-keep-two step f m (Stage.between e one n) lt = subst (λ (x : Found). TwoKept (x .second) m) (sym n) tt
+keep-two : (step : ℕ) (f : Found) (m : List ℕ) → Stage step f → step < 3 → TwoHeld (f .step2) m
+keep-two step f m (Stage.early l n) lt = subst (λ (x : Found). TwoHeld (x .step2) m) (sym n) tt
+keep-two step f m (Stage.between e one n) lt = subst (λ (x : Found). TwoHeld (x .step2) m) (sym n) tt
 keep-two step f m (Stage.late e one n) lt = absurd (omega arith)
 
 leaves-same : (r : Reading) (m : List ℕ) → Invariant r m → length m ≡ objectSize → Leaves r m
@@ -94,32 +94,32 @@ leaves-same r m i e = record { size = e; held = i .held; one = i .one; two = i .
 
 -- ---- rule 4
 
-module _ (r : Reading) (m xs : List ℕ) (i : Invariant r m) (size : length m ≡ objectSize) (lt : r .course .step < 3) (fits : length (r .course .joined) + length xs ≤ 4096) (bytes : Bytes xs) where
+module _ (r : Reading) (m xs : List ℕ) (i : Invariant r m) (size : length m ≡ objectSize) (lt : r .progress .step < 3) (fits : length (r .progress .joined) + length xs ≤ 4096) (bytes : Bytes xs) where
   abbrev base : ℕ
-  base = baseOf (r .course .step)
+  base = baseOf (r .progress .step)
 
   abbrev old : List ℕ
-  old = r .course .joined
+  old = r .progress .joined
 
   room : base + length old + length xs ≤ length m
-  room = let low = base-most (r .course .step) in omega (arith, low)
+  room = let low = base-most (r .progress .step) in omega (arith, low)
 
-  leaves-more : Leaves r (stored m (base + length old) xs)
+  leaves-more : Leaves r (overPlaces m (base + length old) xs)
   leaves-more =
-      record { size = stored-length m xs (base + length old) room ∙ size; held = holds-still m old xs base room (i .held); one = keep-one (r .opening .mode) (r .course .step) (length old) (r .found) m xs (i .stage) lt room (i .one); two = keep-two (r .course .step) (r .found) (stored m (base + length old) xs) (i .stage) lt }
+      record { size = stored-length m xs (base + length old) room ∙ size; held = holds-still m old xs base room (i .held); one = keep-one (r .opening .mode) (r .progress .step) (length old) (r .found) m xs (i .stage) lt room (i .one); two = keep-two (r .progress .step) (r .found) (overPlaces m (base + length old) xs) (i .stage) lt }
 
-  new-held : take (length (old ++ xs)) (drop base (stored m (base + length old) xs)) ≡ old ++ xs
+  new-held : take (length (old ++ xs)) (drop base (overPlaces m (base + length old) xs)) ≡ old ++ xs
   new-held = rw length-append (holds-more m old xs base room (i .held))
 
   -- after 61
-  continues : (second : ℕ) → Leads (withProgress (session-of r) (more (progress-of (r .course)) (length xs) second)) (stored m (base + length old) xs) (withCourse r (continued (r .course) (old ++ xs) second))
+  continues : (second : ℕ) → StandsFor (withSessionProgress (session-of r) (progressContinued (progress-of (r .progress)) (length xs) second)) (overPlaces m (base + length old) xs) (withProgress r (continued (r .progress) (old ++ xs) second))
   continues second =
       record {
-        object = stored m (base + length old) xs;
+        object = overPlaces m (base + length old) xs;
         same = rw length-append;
         holds = record {
           opening = i .opening;
-          course-good = record { step = i .course-good .step; filled = rw length-append fits; cause = refl; outstanding = refl; no-cause = λ e. refl; shown1 = refl; shown2 = refl; bytes = append-bytes old xs (i .course-good .bytes) bytes };
+          progress-good = record { step = i .progress-good .step; filled = rw length-append fits; cause = refl; outstanding = refl; no-cause = λ e. refl; shown1 = refl; shown2 = refl; bytes = append-bytes old xs (i .progress-good .bytes) bytes };
           held = new-held;
           one = leaves-more .one;
           two = leaves-more .two;
@@ -129,34 +129,34 @@ module _ (r : Reading) (m xs : List ℕ) (i : Invariant r m) (size : length m �
       }
 
   -- after 90 00
-  joins : (cancelled : List ℕ) → Leads (judgedSession (session-of r) (joinedIn (progress-of (r .course)) (stored m (base + length old) xs) (length xs)) cancelled) (stored m (base + length old) xs) (judged r (old ++ xs) cancelled)
+  joins : (cancelled : List ℕ) → StandsFor (judgedSession (session-of r) (joinedIn (progress-of (r .progress)) (overPlaces m (base + length old) xs) (length xs)) cancelled) (overPlaces m (base + length old) xs) (judged r (old ++ xs) cancelled)
   unfolding joinedIn
   joins cancelled =
       rw (holds-more m old xs base room (i .held))
-      (judges r m (stored m (base + length old) xs) (old ++ xs) cancelled i leaves-more lt (rw length-append fits) (append-bytes old xs (i .course-good .bytes) bytes) new-held)
+      (judges r m (overPlaces m (base + length old) xs) (old ++ xs) cancelled i leaves-more lt (rw length-append fits) (append-bytes old xs (i .progress-good .bytes) bytes) new-held)
 
   appends : (st : Status) (cancelled : List ℕ)
-      → Leads (appendedSession st (session-of r) (joinedIn (progress-of (r .course)) (stored m (base + length old) xs) (length xs)) (length xs) cancelled) (stored m (base + length old) xs) (appended st r (old ++ xs) cancelled)
+      → StandsFor (appendedSession st (session-of r) (joinedIn (progress-of (r .progress)) (overPlaces m (base + length old) xs) (length xs)) (length xs) cancelled) (overPlaces m (base + length old) xs) (appended st r (old ++ xs) cancelled)
   appends (More second) cancelled = continues second
   appends Done cancelled = joins cancelled
   appends Other cancelled = joins cancelled
 
 -- ---- every answer that is accepted
 
-both : (s₁ s₂ : Session) (m₁ m₂ : List ℕ) (r₁ r₂ : Reading) (b : Bool) → (b ≡ true → Leads s₁ m₁ r₁) → (b ≡ false → Leads s₂ m₂ r₂)
-    → Leads (cond b s₁ s₂) (cond b m₁ m₂) (cond b r₁ r₂)
+both : (s₁ s₂ : Session) (m₁ m₂ : List ℕ) (r₁ r₂ : Reading) (b : Bool) → (b ≡ true → StandsFor s₁ m₁ r₁) → (b ≡ false → StandsFor s₂ m₂ r₂)
+    → StandsFor (cond b s₁ s₂) (cond b m₁ m₂) (cond b r₁ r₂)
 both s₁ s₂ m₁ m₂ r₁ r₂ true f g = f refl
 both s₁ s₂ m₁ m₂ r₁ r₂ false f g = g refl
 
-pub takes-answer : (r : Reading) (m xs status cancelled : List ℕ) → Invariant r m → length m ≡ objectSize → r .course .step < 3 → Bytes xs
-    → Leads (takenSession (session-of r) m xs status cancelled) (takenBuffer (session-of r) m xs status) (answered r xs status cancelled)
-unfolding takenSession takenBuffer answered
+pub takes-answer : (r : Reading) (m xs status cancelled : List ℕ) → Invariant r m → length m ≡ objectSize → r .progress .step < 3 → Bytes xs
+    → StandsFor (answerTakenSession (session-of r) m xs status cancelled) (answerTakenBuffer (session-of r) m xs status) (answerTaken r xs status cancelled)
+unfolding answerTakenSession answerTakenBuffer answerTaken
 takes-answer r m xs status cancelled i size lt b =
     let st = statusOf status in
-    let k = causeBy (r .course) 4096 st xs in
+    let k = causeBy (r .progress) 4096 st xs in
     both _ _ _ _ _ _ (eqb k 0)
-    (λ e. appends r m xs i size lt (rule-fits st (isResponse (r .course .next)) (length xs) (length (r .course .joined)) 4096 (eqb-true k 0 e)) b st cancelled)
-    (λ e. stops r m m k _ _ i (leaves-same r m i size) lt (rule-in-range st (isResponse (r .course .next)) (length xs) (length (r .course .joined)) 4096) (shown-once (eqb k 16) (getD status 0 0)) (shown-once (eqb k 16) (getD status 1 0)))
+    (λ e. appends r m xs i size lt (rule-fits st (isResponse (r .progress .next)) (length xs) (length (r .progress .joined)) 4096 (eqb-true k 0 e)) b st cancelled)
+    (λ e. stops r m m k _ _ i (leaves-same r m i size) lt (rule-in-range st (isResponse (r .progress .next)) (length xs) (length (r .progress .joined)) 4096) (shown-once (eqb k 16) (getD status 0 0)) (shown-once (eqb k 16) (getD status 1 0)))
 
 -- ---- the call
 
@@ -167,16 +167,16 @@ answer-number r m size n i = rw (in-range r m i)
 -- what is known where it is accepted
 pub record Accepts (r : Reading) (size : ℕ) : Type 0 where
   pub whole : size ≡ objectSize
-  pub below : r .course .step < 3
-  pub causeless : r .course .cause ≡ 0
+  pub below : r .progress .step < 3
+  pub causeless : r .progress .cause ≡ 0
 
 pub answer-accepts : (r : Reading) (m : List ℕ) (size n : ℕ) → Invariant r m → answerRefused r size n ≡ 0 → Accepts r size
 unfolding answerRefused
 answer-accepts r m size n i e =
-    let c = none-fit (answerConditions (r .course .outstanding) size n) refl e in
-    let out = open-steps (r .course .outstanding) (leb (r .course .step) 2 && eqb (r .course .cause) 0) (not-false _ (c .0)) (i .course-good .outstanding) in
-    let low : r .course .step ≤ 2 = leb-true _ 2 (and-left (leb (r .course .step) 2) _ out) in
-    record { whole = eqb-true size objectSize (not-false _ (c .1 .0)); below = omega arith; causeless = eqb-true _ 0 (and-right (leb (r .course .step) 2) _ out) }
+    let c = none-fit (answerConditions (r .progress .outstanding) size n) refl e in
+    let out = open-steps (r .progress .outstanding) (leb (r .progress .step) 2 && eqb (r .progress .cause) 0) (not-false _ (c .0)) (i .progress-good .outstanding) in
+    let low : r .progress .step ≤ 2 = leb-true _ 2 (and-left (leb (r .progress .step) 2) _ out) in
+    record { whole = eqb-true size objectSize (not-false _ (c .1 .0)); below = omega arith; causeless = eqb-true _ 0 (and-right (leb (r .progress .step) 2) _ out) }
   where
     open-steps : (a b : Bool) → a ≡ true → not a || b ≡ true → b ≡ true
     open-steps true b p q = q

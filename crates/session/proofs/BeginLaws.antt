@@ -7,14 +7,14 @@ use Prim.Native.Nat.{ℕ, _+_, _<_}
 use native.Mathlib.Omega.{arith}
 use lib.Dec.{leb}
 use lib.ListN.{length, getD}
-use Rattle.card.proofs.RangeLaws.{all-of, length-listOf, getD-listOf}
-use Rattle.session.specs.Tables.{checks, goodKind, needs, checkOf, outcomeOf, neededAt, neededOutcomes}
+use Rattle.card.proofs.ListsLaws.{all-of, length-listOf, getD-listOf}
+use Rattle.session.specs.Tables.{checks, goodKind, needs, checkServed, outcomeOf, neededAt, neededOutcomes}
 use Rattle.session.specs.Ranges.{outcomesInRange}
 use Rattle.session.specs.Reading.{Opening, begins}
 use Rattle.session.specs.Finding.{verdictOn}
 use Rattle.session.specs.Promise.{goodOpening}
 use Rattle.session.proofs.TestLaws.{either}
-use Rattle.session.proofs.Invariant.{Stage, Heard, Invariant}
+use Rattle.session.proofs.Invariant.{Stage, VerdictGave, Invariant}
 use Rattle.session.proofs.OutcomeLaws.{place-of, placed}
 
 needed-at : (mode i : ℕ) → i < checks → getD (neededOutcomes mode) i 0 ≡ cond (needs mode (i + 1)) 1 0
@@ -31,20 +31,20 @@ needed-six : (mode : ℕ) → length (neededOutcomes mode) ≡ checks
 unfolding neededOutcomes
 needed-six mode = length-listOf checks (neededAt mode)
 
-unheard : (mode kind : ℕ) (own : List ℕ) → goodKind kind ≡ true → Heard kind (needs mode (checkOf kind)) own (verdictOn kind []) (outcomeOf (neededOutcomes mode) (checkOf kind))
+awaiting : (mode kind : ℕ) (own : List ℕ) → goodKind kind ≡ true → VerdictGave kind (needs mode (checkServed kind)) own (verdictOn kind []) (outcomeOf (neededOutcomes mode) (checkServed kind))
 unfolding verdictOn
-unheard mode kind own g =
+awaiting mode kind own g =
     let p = placed kind g in
-    Heard.unheard refl (rw (p .next) at (needed-at mode (place-of kind) (p .low)))
+    VerdictGave.awaiting refl (rw (p .next) at (needed-at mode (place-of kind) (p .low)))
 
 pub begins-holds : (o : Opening) (m : List ℕ) → goodOpening o ≡ true → Invariant (begins o) m
 begins-holds o m e =
     record {
       opening = e;
-      course-good = record { step = refl; filled = omega arith; cause = refl; outstanding = refl; no-cause = λ z. refl; shown1 = refl; shown2 = refl; bytes = λ i. omega arith };
+      progress-good = record { step = refl; filled = omega arith; cause = refl; outstanding = refl; no-cause = λ z. refl; shown1 = refl; shown2 = refl; bytes = λ i. omega arith };
       held = refl;
       one = tt;
       two = tt;
       stage = Stage.early (omega arith) refl;
-      judged = record { six = needed-six (o .mode); small = needed-small (o .mode); verdicts = λ kind g. unheard (o .mode) kind _ g; expiry = tt; list = tt };
+      judged = record { six = needed-six (o .mode); small = needed-small (o .mode); verdicts = λ kind g. awaiting (o .mode) kind _ g; expiry = tt; list = tt };
     }

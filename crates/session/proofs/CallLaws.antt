@@ -9,14 +9,14 @@ use borrow.Author.Tests.{eq-eqb, ne-eqb, eqb-true, not-false, ltb-false, leb-tru
 use lib.Dec.{eqb, leb}
 use lib.ListN.{length, take, drop}
 use lib.Seq.{drop-drop}
-use Rattle.card.specs.Range.{front}
+use Rattle.card.specs.Lists.{overFront}
 use Rattle.card.specs.Object.{bytesAt}
 use Rattle.card.specs.declared.object.Part.{Part}
 use Rattle.card.proofs.CommandLaws.{aid-most}
 use Rattle.session.specs.Tables.{objectSize, baseOf, stepOfTag, dataOf, statusBytes, stampSize}
 use Rattle.session.specs.Condition.{openConditions, answerConditions, stampConditions}
 use Rattle.session.specs.Ranges.{inRange, outOfRange}
-use Rattle.session.specs.Operation.{openRefusal, answerRefusal, takenSession, takenBuffer, answerOf, answerBuffer, stampIn, stampRefusal, stampBuffer, partFor, fieldRefusal, fieldOf}
+use Rattle.session.specs.Operation.{openRefusal, answerRefusal, answerTakenSession, answerTakenBuffer, answerOf, answerBuffer, stampIn, stampRefusal, stampBuffer, partFor, fieldRefusal, fieldOf}
 use Rattle.session.specs.declared.state.Session.{Session}
 use Rattle.session.proofs.TestLaws.{and-left, and-right, or-left, or-right}
 use Rattle.session.proofs.ConditionLaws.{none-fit}
@@ -62,7 +62,7 @@ answer-fits s size n e =
     record { range = not-false _ (c .0); whole = eqb-true size objectSize (not-false _ (c .1 .1 .0)); least = leb-true 2 n (and-left (leb 2 n) (leb n 258) h); most = leb-true n 258 (and-right (leb 2 n) (leb n 258) h) }
 
 pub answer-taken : (s : Session) (object bytes cancelled : List ℕ) {n : ℕ} {x : Session} {m : List ℕ} → n ≡ answerRefusal s (length object) (length bytes) → n ≡ 0
-    → x ≡ takenSession s object (dataOf bytes) (statusBytes bytes) cancelled → m ≡ takenBuffer s object (dataOf bytes) (statusBytes bytes)
+    → x ≡ answerTakenSession s object (dataOf bytes) (statusBytes bytes) cancelled → m ≡ answerTakenBuffer s object (dataOf bytes) (statusBytes bytes)
     → ((n, x) ≡ answerOf s object bytes cancelled) × (m ≡ answerBuffer s object bytes)
 unfolding answerOf answerBuffer
 answer-taken s object bytes cancelled e z f g = (accepts s e z f, rw (none e z) g)
@@ -113,7 +113,7 @@ pub stamp-fits : (s : Session) (room : ℕ) → stampRefusal s room ≡ 0 → st
 unfolding stampRefusal
 stamp-fits s room e = ltb-false room stampSize (none-fit ((4, outOfRange s) ∷ stampConditions room) refl e .1 .0)
 
-pub stamp-accepted : (s : Session) (out : List ℕ) {k : ℕ} {after : List ℕ} → k ≡ stampRefusal s (length out) → k ≡ 0 → after ≡ front (stampIn s) out → after ≡ stampBuffer s out
+pub stamp-accepted : (s : Session) (out : List ℕ) {k : ℕ} {left : List ℕ} → k ≡ stampRefusal s (length out) → k ≡ 0 → left ≡ overFront (stampIn s) out → left ≡ stampBuffer s out
 unfolding stampBuffer
 stamp-accepted s out e z p = rw (none e z, p)
 

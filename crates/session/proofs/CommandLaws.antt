@@ -9,20 +9,20 @@ use borrow.Author.Tests.{leb-true, le-leb, eqb-false}
 use lib.Dec.{eqb, leb}
 use lib.ListN.{length, take, drop, replicate}
 use lib.Seq.{take-append-seam}
-use Rattle.card.specs.Range.{front}
+use Rattle.card.specs.Lists.{overFront}
 use Rattle.session.specs.Tables.{ends}
 use Rattle.session.specs.Condition.{nothingToSend, commandConditions}
-use Rattle.session.specs.Reading.{Course, Reading, withCourse, nextCommand, commandRefused, sending}
+use Rattle.session.specs.Reading.{Progress, Reading, withProgress, nextCommand, commandRefused, sending}
 use Rattle.session.specs.Ranges.{stepInRange, causeInRange}
 use Rattle.session.specs.Operation.{commandIn, commandRefusal, commandOf, commandBuffer}
 use Rattle.session.proofs.TestLaws.{and-left, and-both, or-left, or-right}
 use Rattle.session.proofs.ConditionLaws.{none-fit}
-use Rattle.session.proofs.Invariant.{session-of, GoodCourse, Invariant}
+use Rattle.session.proofs.Invariant.{session-of, GoodProgress, Invariant}
 use Rattle.session.proofs.InRangeLaws.{in-range}
 
 -- the AID is what was given, without the zeros after it
-aid-kept : (aid : List ℕ) → take (length aid) (front aid (replicate 16 0)) ≡ aid
-unfolding front
+aid-kept : (aid : List ℕ) → take (length aid) (overFront aid (replicate 16 0)) ≡ aid
+unfolding overFront
 aid-kept aid = take-append-seam aid (drop (length aid) (replicate 16 0))
 
 pub command-is : (r : Reading) → commandIn (session-of r) ≡ nextCommand r
@@ -35,11 +35,11 @@ command-number r m room i = rw (in-range r m i, command-is r)
 
 -- what the call gives, and what it leaves in the buffer
 pub command-gives : (r : Reading) (m : List ℕ) (room : ℕ) → Invariant r m
-    → commandOf (session-of r) room ≡ cond (eqb (commandRefused r room) 0) (0, length (nextCommand r), session-of (withCourse r (sending (r .course)))) (commandRefused r room, 0, session-of r)
+    → commandOf (session-of r) room ≡ cond (eqb (commandRefused r room) 0) (0, length (nextCommand r), session-of (withProgress r (sending (r .progress)))) (commandRefused r room, 0, session-of r)
 unfolding commandOf
 command-gives r m room i = rw (command-number r m room i, command-is r)
 
-pub command-leaves : (r : Reading) (m out : List ℕ) → Invariant r m → commandBuffer (session-of r) out ≡ cond (eqb (commandRefused r (length out)) 0) (front (nextCommand r) out) out
+pub command-leaves : (r : Reading) (m out : List ℕ) → Invariant r m → commandBuffer (session-of r) out ≡ cond (eqb (commandRefused r (length out)) 0) (overFront (nextCommand r) out) out
 unfolding commandBuffer
 command-leaves r m out i = rw (command-number r m (length out) i, command-is r)
 
@@ -50,19 +50,19 @@ can-send mode step cause outstanding s c e =
     let e1 = or-left (eqb step 3 || ends cause) outstanding e in
     let n3 = eqb-false step 3 (or-left (eqb step 3) (ends cause) e1) in
     let l3 : step ≤ 3 = leb-true step 3 (and-left (leb step 3) _ s) in
-    and-both (le-leb step 2 (omega arith)) (first (eqb cause 0) (ends cause) c (or-right (eqb step 3) (ends cause) e1))
+    and-both (le-leb step 2 (omega arith)) (one-of (eqb cause 0) (ends cause) c (or-right (eqb step 3) (ends cause) e1))
   where
-    first : (a b : Bool) → a || b ≡ true → b ≡ false → a ≡ true
-    first true b p q = refl
-    first false b p q = rw q at p
+    one-of : (a b : Bool) → a || b ≡ true → b ≡ false → a ≡ true
+    one-of true b p q = refl
+    one-of false b p q = rw q at p
 
-sending-course : (mode : ℕ) (c : Course) → GoodCourse mode c → nothingToSend (c .step) (c .cause) (c .outstanding) ≡ false → GoodCourse mode (sending c)
-sending-course mode c s e =
+sending-progress : (mode : ℕ) (c : Progress) → GoodProgress mode c → nothingToSend (c .step) (c .cause) (c .outstanding) ≡ false → GoodProgress mode (sending c)
+sending-progress mode c s e =
     record { step = s .step; filled = s .filled; cause = s .cause; outstanding = can-send mode (c .step) (c .cause) (c .outstanding) (s .step) (s .cause) e; no-cause = s .no-cause; shown1 = s .shown1; shown2 = s .shown2; bytes = s .bytes }
 
-pub on-command : (r : Reading) (m : List ℕ) (room : ℕ) → Invariant r m → commandRefused r room ≡ 0 → Invariant (withCourse r (sending (r .course))) m
+pub on-command : (r : Reading) (m : List ℕ) (room : ℕ) → Invariant r m → commandRefused r room ≡ 0 → Invariant (withProgress r (sending (r .progress))) m
 unfolding commandRefused
 on-command r m room i e =
-    let c = r .course in
+    let c = r .progress in
     let free = none-fit (commandConditions (c .step) (c .cause) (c .outstanding) room (length (nextCommand r))) refl e .0 in
-    record { opening = i .opening; course-good = sending-course (r .opening .mode) c (i .course-good) free; held = i .held; one = i .one; two = i .two; stage = i .stage; judged = i .judged }
+    record { opening = i .opening; progress-good = sending-progress (r .opening .mode) c (i .progress-good) free; held = i .held; one = i .one; two = i .two; stage = i .stage; judged = i .judged }

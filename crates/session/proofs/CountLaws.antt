@@ -15,7 +15,7 @@ use Rattle.card.specs.declared.command.Status.the-variants.{Done, More, Other}
 use Rattle.session.specs.Tables.{ends, hasStep2, isResponse, dataOf, statusBytes, ruleCause, joinedCause}
 use Rattle.session.specs.Ranges.{causeInRange}
 use Rattle.session.specs.Condition.{commandConditions, answerConditions}
-use Rattle.session.specs.Reading.{Opening, Told, Course, Reading, begins, atStep, nextCommand, commandRefused, sending, answerRefused, stopped, continued, goodEnd, judged, appended, causeBy, answered, verdictRefused, heard, refusedBy, read, takes, answersIn, answers}
+use Rattle.session.specs.Reading.{Opening, Arguments, Progress, Reading, begins, atStep, nextCommand, commandRefused, sending, answerRefused, stopped, continued, goodEnd, judged, appended, causeBy, answerTaken, verdictRefused, verdictTaken, refusedBy, read, takes, answersIn, answers}
 use Rattle.session.proofs.TestLaws.{clash, or-left, or-right, either}
 use Rattle.session.proofs.ConditionLaws.{none-fit}
 use Rattle.session.proofs.RuleLaws.{rule-in-range, joined-in-range}
@@ -28,10 +28,10 @@ arose-ends k p q = rw q at p
 
 -- what the answers taken in a step have used up: the first may come without data, every later one after which more data is asked for brings a byte, and the last may
 -- end the reading
-abbrev asked : Course → ℕ
+abbrev asked : Progress → ℕ
 asked c = cond (isResponse (c .next)) (length (c .joined) + 1) 0
 
-abbrev used : Course → ℕ
+abbrev used : Progress → ℕ
 used c = asked c + cond (ends (c .cause)) 1 0
 
 -- how many may still be taken in step k, at step s with u used up
@@ -83,36 +83,36 @@ left-falls k s u t v o = go (ltb k s) (ltb s k) refl refl o
 
 -- ---- a call
 
-abbrev budget : ℕ → Course → ℕ
+abbrev budget : ℕ → Progress → ℕ
 budget k c = left k (c .step) (used c)
 
 -- what the count asks of the course of a reading
-record Countable (c : Course) : Type 0 where
+record Countable (c : Progress) : Type 0 where
   low : c .step ≤ 3
   small : length (c .joined) ≤ 4096
   sent : c .outstanding ≡ true → (c .step < 3) × (ends (c .cause) ≡ false)
 
 -- a call that takes an answer or none leads from one course to another
-record Spends (b : Bool) (c d : Course) : Type 0 where
+record Spends (b : Bool) (c d : Progress) : Type 0 where
   counts : Countable d
   falls : (k : ℕ) → cond (b && eqb (c .step) k) 1 0 + budget k d ≤ budget k c
 
-spends-none : (c : Course) → Countable c → Spends false c c
+spends-none : (c : Progress) → Countable c → Spends false c c
 spends-none c h = record { counts = h; falls = λ k. omega arith }
 
 -- a refused call changes nothing
-by-call : (x : Bool) (r q : Reading) (b : Bool) → Countable (r .course) → (b ≡ true → Spends x (r .course) (q .course)) → Spends (x && b) (r .course) ((cond b q r) .course)
+by-call : (x : Bool) (r q : Reading) (b : Bool) → Countable (r .progress) → (b ≡ true → Spends x (r .progress) (q .progress)) → Spends (x && b) (r .progress) ((cond b q r) .progress)
 by-call true r q true h f = f refl
 by-call false r q true h f = f refl
-by-call true r q false h f = spends-none (r .course) h
-by-call false r q false h f = spends-none (r .course) h
+by-call true r q false h f = spends-none (r .progress) h
+by-call false r q false h f = spends-none (r .progress) h
 
 -- ---- a command
 
-sending-none : (r : Reading) (room : ℕ) → Countable (r .course) → commandRefused r room ≡ 0 → Spends false (r .course) (sending (r .course))
+sending-none : (r : Reading) (room : ℕ) → Countable (r .progress) → commandRefused r room ≡ 0 → Spends false (r .progress) (sending (r .progress))
 unfolding commandRefused
 sending-none r room h e =
-    let c = r .course in
+    let c = r .progress in
     let f = none-fit (commandConditions (c .step) (c .cause) (c .outstanding) room (length (nextCommand r))) refl e in
     let g : eqb (c .step) 3 || ends (c .cause) ≡ false = or-left (eqb (c .step) 3 || ends (c .cause)) (c .outstanding) (f .0) in
     let other = eqb-false (c .step) 3 (or-left (eqb (c .step) 3) (ends (c .cause)) g) in
@@ -124,7 +124,7 @@ sending-none r room h e =
 
 -- ---- an answer
 
-asked-most : (c : Course) → Countable c → asked c ≤ 4097
+asked-most : (c : Progress) → Countable c → asked c ≤ 4097
 asked-most c h = let l = h .small in either (λ (n : ℕ). n ≤ 4097) (isResponse (c .next)) (omega arith) (omega arith)
 
 -- an answer that is appended and after which more data is asked for: it is the first of its step, or it brings a byte
@@ -140,87 +140,87 @@ rule-brings second response n total most e =
     go true true p q = clash (sym q)
     go false true p q = let z = eqb-false n 0 p in omega arith
 
-module _ (r : Reading) (h : Countable (r .course)) (below : r .course .step < 3) (no-cause : ends (r .course .cause) ≡ false) where
-  stops : (k a b : ℕ) → causeInRange k ≡ true → eqb k 0 ≡ false → Spends true (r .course) (stopped (r .course) k a b)
+module _ (r : Reading) (h : Countable (r .progress)) (below : r .progress .step < 3) (no-cause : ends (r .progress .cause) ≡ false) where
+  stops : (k a b : ℕ) → causeInRange k ≡ true → eqb k 0 ≡ false → Spends true (r .progress) (stopped (r .progress) k a b)
   stops k a b p q =
-      let most = asked-most (r .course) h in
+      let most = asked-most (r .progress) h in
       let e = arose-ends k p q in
       record {
         counts = record { low = h .low; small = h .small; sent = λ z. clash z };
         falls = λ n. left-falls n _ _ _ _ (Onward.same refl (rw (no-cause, e) (omega arith)) (rw e (omega arith)));
       }
 
-  moves : (s : ℕ) → r .course .step < s → s ≤ 3 → Spends true (r .course) (atStep s)
+  moves : (s : ℕ) → r .progress .step < s → s ≤ 3 → Spends true (r .progress) (atStep s)
   moves s l m =
-      let most = asked-most (r .course) h in
+      let most = asked-most (r .progress) h in
       record {
         counts = record { low = m; small = omega arith; sent = λ z. clash z };
         falls = λ n. left-falls n _ _ _ _ (Onward.later l (rw no-cause (omega arith)));
       }
 
-  continues : (joined : List ℕ) (second : ℕ) → asked (r .course) < length joined + 1 → length joined ≤ 4096
-      → Spends true (r .course) (continued (r .course) joined second)
+  continues : (joined : List ℕ) (second : ℕ) → asked (r .progress) < length joined + 1 → length joined ≤ 4096
+      → Spends true (r .progress) (continued (r .progress) joined second)
   continues joined second l m =
       record {
         counts = record { low = h .low; small = m; sent = λ z. clash z };
         falls = λ n. left-falls n _ _ _ _ (Onward.same refl (rw no-cause (omega arith)) (omega arith));
       }
 
-  choose : (q p : Reading) (b : Bool) → (b ≡ true → Spends true (r .course) (q .course)) → (b ≡ false → Spends true (r .course) (p .course))
-      → Spends true (r .course) ((cond b q p) .course)
+  choose : (q p : Reading) (b : Bool) → (b ≡ true → Spends true (r .progress) (q .progress)) → (b ≡ false → Spends true (r .progress) (p .progress))
+      → Spends true (r .progress) ((cond b q p) .progress)
   choose q p true f g = f refl
   choose q p false f g = g refl
 
-  ends-well : (joined cancelled : List ℕ) → Spends true (r .course) (goodEnd r joined cancelled .course)
+  ends-well : (joined cancelled : List ℕ) → Spends true (r .progress) (goodEnd r joined cancelled .progress)
   unfolding goodEnd
   ends-well joined cancelled =
-      choose _ _ (eqb (r .course .step) 0) (λ e. moves 1 (let z = eqb-true (r .course .step) 0 e in omega arith) (omega arith))
-      (λ _. choose _ _ (eqb (r .course .step) 1)
-      (λ e. let z = eqb-true (r .course .step) 1 e in let t = either (λ (n : ℕ). (1 < n) × (n ≤ 3)) (hasStep2 (r .opening .mode)) {x = 2} {y = 3} (omega arith, omega arith) (omega arith, omega arith) in moves _ (rw z (t .0)) (t .1))
+      choose _ _ (eqb (r .progress .step) 0) (λ e. moves 1 (let z = eqb-true (r .progress .step) 0 e in omega arith) (omega arith))
+      (λ _. choose _ _ (eqb (r .progress .step) 1)
+      (λ e. let z = eqb-true (r .progress .step) 1 e in let t = either (λ (n : ℕ). (1 < n) × (n ≤ 3)) (hasStep2 (r .opening .mode)) {x = 2} {y = 3} (omega arith, omega arith) (omega arith, omega arith) in moves _ (rw z (t .0)) (t .1))
       (λ _. moves 3 below (omega arith)))
 
-  judges : (joined cancelled : List ℕ) → Spends true (r .course) (judged r joined cancelled .course)
+  judges : (joined cancelled : List ℕ) → Spends true (r .progress) (judged r joined cancelled .progress)
   unfolding judged
   judges joined cancelled =
-      let k = joinedCause (r .opening .mode) (r .course .step) joined in
-      choose _ _ (eqb k 0) (λ _. ends-well joined cancelled) (λ e. stops k 0 0 (joined-in-range (r .opening .mode) (r .course .step) joined) e)
+      let k = joinedCause (r .opening .mode) (r .progress .step) joined in
+      choose _ _ (eqb k 0) (λ _. ends-well joined cancelled) (λ e. stops k 0 0 (joined-in-range (r .opening .mode) (r .progress .step) joined) e)
 
-  appends : (status : Status) (bytes cancelled : List ℕ) → causeBy (r .course) 4096 status bytes ≡ 0
-      → Spends true (r .course) (appended status r (r .course .joined ++ bytes) cancelled .course)
+  appends : (status : Status) (bytes cancelled : List ℕ) → causeBy (r .progress) 4096 status bytes ≡ 0
+      → Spends true (r .progress) (appended status r (r .progress .joined ++ bytes) cancelled .progress)
   appends (More second) bytes cancelled e =
-      let f = rule-brings second (isResponse (r .course .next)) (length bytes) (length (r .course .joined)) 4096 e in
+      let f = rule-brings second (isResponse (r .progress .next)) (length bytes) (length (r .progress .joined)) 4096 e in
       continues _ second (rw length-append (f .0)) (rw length-append (f .1))
-  appends Done bytes cancelled e = judges (r .course .joined ++ bytes) cancelled
-  appends Other bytes cancelled e = judges (r .course .joined ++ bytes) cancelled
+  appends Done bytes cancelled e = judges (r .progress .joined ++ bytes) cancelled
+  appends Other bytes cancelled e = judges (r .progress .joined ++ bytes) cancelled
 
-  answers-one : (bytes status cancelled : List ℕ) → Spends true (r .course) (answered r bytes status cancelled .course)
-  unfolding answered
+  answers-one : (bytes status cancelled : List ℕ) → Spends true (r .progress) (answerTaken r bytes status cancelled .progress)
+  unfolding answerTaken
   answers-one bytes status cancelled =
-      let k = causeBy (r .course) 4096 (statusOf status) bytes in
+      let k = causeBy (r .progress) 4096 (statusOf status) bytes in
       choose _ _ (eqb k 0) (λ e. appends (statusOf status) bytes cancelled (eqb-true k 0 e))
-      (λ e. stops k _ _ (rule-in-range (statusOf status) (isResponse (r .course .next)) (length bytes) (length (r .course .joined)) 4096) e)
+      (λ e. stops k _ _ (rule-in-range (statusOf status) (isResponse (r .progress .next)) (length bytes) (length (r .progress .joined)) 4096) e)
 
 -- an answer is taken only where a command is outstanding
-taken-sent : (r : Reading) (size n : ℕ) → answerRefused r size n ≡ 0 → r .course .outstanding ≡ true
+taken-sent : (r : Reading) (size n : ℕ) → answerRefused r size n ≡ 0 → r .progress .outstanding ≡ true
 unfolding answerRefused
-taken-sent r size n e = not-false (r .course .outstanding) (none-fit (answerConditions (r .course .outstanding) size n) refl e .0)
+taken-sent r size n e = not-false (r .progress .outstanding) (none-fit (answerConditions (r .progress .outstanding) size n) refl e .0)
 
 -- ---- every call, and every list of calls
 
-spends : (r : Reading) (t : Told) → Countable (r .course) → Spends (takes r t) (r .course) (read r t .course)
+spends : (r : Reading) (t : Arguments) → Countable (r .progress) → Spends (takes r t) (r .progress) (read r t .progress)
 unfolding read
-spends r (Told.command room) h =
+spends r (Arguments.command room) h =
     by-call false r _ (eqb (commandRefused r room) 0) h (λ e. sending-none r room h (eqb-true (commandRefused r room) 0 e))
-spends r (Told.answer size bytes cancelled) h =
+spends r (Arguments.answer size bytes cancelled) h =
     let k = answerRefused r size (length bytes) in
     by-call true r _ (eqb k 0) h
     (λ e. let s = h .sent (taken-sent r size (length bytes) (eqb-true k 0 e)) in answers-one r h (s .0) (s .1) (dataOf bytes) (statusBytes bytes) cancelled)
-spends r (Told.verdict kind says fascn) h =
-    by-call false r (heard r kind says fascn) (eqb (verdictRefused r kind says fascn) 0) h (λ e. spends-none (r .course) h)
-spends r (Told.field size tag) h = by-call false r r (eqb (refusedBy r (Told.field size tag)) 0) h (λ e. spends-none (r .course) h)
-spends r (Told.stamp room) h = by-call false r r (eqb (refusedBy r (Told.stamp room)) 0) h (λ e. spends-none (r .course) h)
+spends r (Arguments.verdict kind yesNo fascn) h =
+    by-call false r (verdictTaken r kind yesNo fascn) (eqb (verdictRefused r kind yesNo fascn) 0) h (λ e. spends-none (r .progress) h)
+spends r (Arguments.field size tag) h = by-call false r r (eqb (refusedBy r (Arguments.field size tag)) 0) h (λ e. spends-none (r .progress) h)
+spends r (Arguments.stamp room) h = by-call false r r (eqb (refusedBy r (Arguments.stamp room)) 0) h (λ e. spends-none (r .progress) h)
 
-count : (k : ℕ) (ts : List Told) (r : Reading) → Countable (r .course) → answersIn k r ts ≤ budget k (r .course)
+count : (k : ℕ) (ts : List Arguments) (r : Reading) → Countable (r .progress) → answersIn k r ts ≤ budget k (r .progress)
 count k [] r h = omega arith
 count k (t ∷ ts) r h =
     let s = spends r t h in
@@ -229,13 +229,13 @@ count k (t ∷ ts) r h =
     omega (arith, here, there)
 
 -- a taken answer is in step 0, 1 or 2
-takes-below : (r : Reading) (t : Told) → Countable (r .course) → takes r t ≡ true → r .course .step < 3
-takes-below r (Told.command room) h e = clash e
-takes-below r (Told.answer size bytes cancelled) h e =
+takes-below : (r : Reading) (t : Arguments) → Countable (r .progress) → takes r t ≡ true → r .progress .step < 3
+takes-below r (Arguments.command room) h e = clash e
+takes-below r (Arguments.answer size bytes cancelled) h e =
     h .sent (taken-sent r size (length bytes) (eqb-true (answerRefused r size (length bytes)) 0 e)) .0
-takes-below r (Told.verdict kind says fascn) h e = clash e
-takes-below r (Told.field size tag) h e = clash e
-takes-below r (Told.stamp room) h e = clash e
+takes-below r (Arguments.verdict kind yesNo fascn) h e = clash e
+takes-below r (Arguments.field size tag) h e = clash e
+takes-below r (Arguments.stamp room) h e = clash e
 
 one-of-three : (b : Bool) (s : ℕ) → (b ≡ true → s < 3) → cond b 1 0 ≤ cond (b && eqb s 0) 1 0 + cond (b && eqb s 1) 1 0 + cond (b && eqb s 2) 1 0
 one-of-three false s f = omega arith
@@ -244,23 +244,23 @@ one-of-three true (suc zero) f = omega arith
 one-of-three true (suc (suc zero)) f = omega arith
 one-of-three true (suc (suc (suc s))) f = absurd (let l = f refl in omega arith)
 
-by-steps : (ts : List Told) (r : Reading) → Countable (r .course) → answers r ts ≤ answersIn 0 r ts + answersIn 1 r ts + answersIn 2 r ts
+by-steps : (ts : List Arguments) (r : Reading) → Countable (r .progress) → answers r ts ≤ answersIn 0 r ts + answersIn 1 r ts + answersIn 2 r ts
 by-steps [] r h = omega arith
 by-steps (t ∷ ts) r h =
-    let here = one-of-three (takes r t) (r .course .step) (takes-below r t h) in
+    let here = one-of-three (takes r t) (r .progress .step) (takes-below r t h) in
     let there = by-steps ts (read r t) (spends r t h .counts) in
     omega (arith, here, there)
 
-begins-countable : (o : Opening) → Countable (begins o .course)
+begins-countable : (o : Opening) → Countable (begins o .progress)
 begins-countable o = record { low = omega arith; small = omega arith; sent = λ z. clash z }
 
-pub answers-step : (step : ℕ) (o : Opening) (ts : List Told) → answersIn step (begins o) ts ≤ 4098
+pub answers-step : (step : ℕ) (o : Opening) (ts : List Arguments) → answersIn step (begins o) ts ≤ 4098
 answers-step step o ts =
     let most = count step ts (begins o) (begins-countable o) in
     let all = left-most step 0 0 in
     omega (arith, most, all)
 
-pub answers-all : (o : Opening) (ts : List Told) → answers (begins o) ts ≤ 12294
+pub answers-all : (o : Opening) (ts : List Arguments) → answers (begins o) ts ≤ 12294
 answers-all o ts =
     let sum = by-steps ts (begins o) (begins-countable o) in
     let a = answers-step 0 o ts in

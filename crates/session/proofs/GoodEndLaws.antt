@@ -13,35 +13,35 @@ use lib.Seq.{getD-set-same, getD-set-other}
 use Rattle.card.specs.Object.{objectOf, fieldValue}
 use Rattle.card.specs.Fascn.{unpackOf}
 use Rattle.card.specs.Date.{dateOf}
-use Rattle.session.specs.Tables.{checkOf, outcomeOf, expiryOutcome, listOutcome, judgedOutcomes, hasStep2, kindAt, stepAfter, baseOf, objectSize, fascnIn, keyIn, expiryIn, objectCause, joinedCause}
-use Rattle.session.specs.Reading.{Opening, StepOne, Verdict, Found, Reading, withCourse, atStep, firstEnd, secondEnd, goodEnd, ownFascn}
+use Rattle.session.specs.Tables.{checkServed, outcomeOf, expiryOutcome, listOutcome, judgedOutcomes, hasStep2, kindAt, stepAfter, baseOf, objectSize, fascnRead, keyRead, expiryRead, objectCause, joinedCause}
+use Rattle.session.specs.Reading.{Opening, StepOne, Verdict, Found, Reading, withProgress, atStep, step1End, step2End, goodEnd, ownFascn}
 use Rattle.session.specs.Finding.{verdictOn}
 use Rattle.session.specs.Ranges.{stepInRange}
 use Rattle.session.specs.Promise.{Host}
-use Rattle.session.specs.Operation.{nextStep, secondRead}
+use Rattle.session.specs.Operation.{goodEndSession, step2EndSession}
 use Rattle.session.specs.Promise.{Bytes}
 use Rattle.session.specs.declared.state.Session.{Session}
 use Rattle.session.proofs.TestLaws.{clash, by-test, either}
 use Rattle.session.proofs.ConditionLaws.{none-fit}
 use Rattle.session.proofs.OutcomeLaws.{place-of, placed, set-in-range, expiry-small, list-small}
-use Rattle.session.proofs.Invariant.{session-of, Kept, GoodOne, OneKept, TwoKept, Stage, Heard, Judged, GoodCourse, Invariant, Leads}
+use Rattle.session.proofs.Invariant.{session-of, Held, GoodOne, OneHeld, TwoHeld, Stage, VerdictGave, Judged, GoodProgress, Invariant, StandsFor}
 
 -- a buffer that has all that a reading needs of it
 pub record Leaves (r : Reading) (m : List ℕ) : Type 0 where
   pub size : length m ≡ objectSize
-  pub held : take (length (r .course .joined)) (drop (baseOf (r .course .step)) m) ≡ r .course .joined
-  pub one : OneKept (r .opening .mode) (r .found .first) m
-  pub two : TwoKept (r .found .second) m
+  pub held : take (length (r .progress .joined)) (drop (baseOf (r .progress .step)) m) ≡ r .progress .joined
+  pub one : OneHeld (r .opening .mode) (r .found .step1) m
+  pub two : TwoHeld (r .found .step2) m
 
 -- a step that begins: no data, no cause, no command outstanding
-begun-course : (mode step : ℕ) → stepInRange mode step ≡ true → GoodCourse mode (atStep step)
-begun-course mode step e = record { step = e; filled = omega arith; cause = refl; outstanding = refl; no-cause = λ z. refl; shown1 = refl; shown2 = refl; bytes = λ i. omega arith }
+begun-progress : (mode step : ℕ) → stepInRange mode step ≡ true → GoodProgress mode (atStep step)
+begun-progress mode step e = record { step = e; filled = omega arith; cause = refl; outstanding = refl; no-cause = λ z. refl; shown1 = refl; shown2 = refl; bytes = λ i. omega arith }
 
 -- ---- step 0
 
-template-end : (r : Reading) (m m′ : List ℕ) → Invariant r m → Leaves r m′ → r .course .step ≡ 0 → Invariant (withCourse r (atStep 1)) m′
+template-end : (r : Reading) (m m′ : List ℕ) → Invariant r m → Leaves r m′ → r .progress .step ≡ 0 → Invariant (withProgress r (atStep 1)) m′
 template-end r m m′ i l e =
-    record { opening = i .opening; course-good = begun-course (r .opening .mode) 1 refl; held = refl; one = l .one; two = l .two; stage = up (r .found) (subst (λ (s : ℕ). Stage s (r .found)) e (i .stage)); judged = i .judged }
+    record { opening = i .opening; progress-good = begun-progress (r .opening .mode) 1 refl; held = refl; one = l .one; two = l .two; stage = up (r .found) (subst (λ (s : ℕ). Stage s (r .found)) e (i .stage)); judged = i .judged }
   where
     up : (f : Found) → Stage 0 f → Stage 1 f
     up f (Stage.early l e) = Stage.early (omega arith) e
@@ -54,15 +54,15 @@ template-end r m m′ i l e =
 one-good : (mode : ℕ) (xs cancelled : List ℕ) → Bytes xs → joinedCause mode 1 xs ≡ 0 → GoodOne mode (record { joined = xs; cancelled = cancelled })
 unfolding joinedCause objectCause
 one-good mode xs cancelled b e =
-    let u = unpackOf (fascnIn mode xs) .0 in
+    let u = unpackOf (fascnRead mode xs) .0 in
     let d = dateOf (fieldValue (kindAt mode 1) 0x35 xs) .0 in
     let c = none-fit ((20, not (eqb (objectOf (kindAt mode 1) xs .0) 0)) ∷ (21, not (eqb u 0)) ∷ (22, not (eqb d 0)) ∷ []) refl e in
     record { object = eqb-true _ 0 (not-false _ (c .0)); fascn = eqb-true u 0 (not-false _ (c .1 .0)); date = eqb-true d 0 (not-false _ (c .1 .1 .0)); bytes = b }
 
 -- what no verdict gave waits on, whatever FASC-N is then read
-waits-on : (kind : ℕ) (needed : Bool) (own own′ : List ℕ) (v : Option Verdict) (o o′ : ℕ) → v ≡ Option.none → o′ ≡ o → Heard kind needed own v o → Heard kind needed own′ v o′
-waits-on kind needed own own′ v o o′ n e (Heard.unheard p q) = Heard.unheard p (e ∙ q)
-waits-on kind needed own own′ v o o′ n e (Heard.heard says f p q h z) = clash (sym (ap is n) ∙ ap is p)
+waits-on : (kind : ℕ) (needed : Bool) (own own′ : List ℕ) (v : Option Verdict) (o o′ : ℕ) → v ≡ Option.none → o′ ≡ o → VerdictGave kind needed own v o → VerdictGave kind needed own′ v o′
+waits-on kind needed own own′ v o o′ n e (VerdictGave.awaiting p q) = VerdictGave.awaiting p (e ∙ q)
+waits-on kind needed own own′ v o o′ n e (VerdictGave.taken yesNo f p q h z) = clash (sym (ap is n) ∙ ap is p)
   where
     is : Option Verdict → Bool
     is Option.none = false
@@ -80,19 +80,19 @@ module _ (o : List ℕ) (a b : ℕ) (six : length o ≡ 6) where
   set-four = getD-set-same (set o 2 a) 3 b 0 (omega (arith, length-set o 2 a))
 
 abbrev nothing : Found
-nothing = record { first = Option.none; second = Option.none; verdicts = [] }
+nothing = record { step1 = Option.none; step2 = Option.none; verdicts = [] }
 
 one-judged : (o : Opening) (old : List ℕ) (f : Found) (xs cancelled : List ℕ) → f ≡ nothing → Judged o old f
-    → Judged o (judgedOutcomes (o .mode) (o .date) old xs cancelled) (record { first = Option.some (record { joined = xs; cancelled = cancelled }); second = f .second; verdicts = f .verdicts })
+    → Judged o (judgedOutcomes (o .mode) (o .date) old xs cancelled) (record { step1 = Option.some (record { joined = xs; cancelled = cancelled }); step2 = f .step2; verdicts = f .verdicts })
 unfolding verdictOn
 one-judged o old f xs cancelled n j =
-    let a = expiryOutcome (o .date) (expiryIn (o .mode) xs) in
-    let b = listOutcome (keyIn (o .mode) xs) cancelled in
+    let a = expiryOutcome (o .date) (expiryRead (o .mode) xs) in
+    let b = listOutcome (keyRead (o .mode) xs) cancelled in
     let six : length (set old 2 a) ≡ 6 = length-set old 2 a ∙ j .six in
     record {
       six = length-set (set old 2 a) 3 b ∙ six;
-      small = set-in-range (set old 2 a) 3 b (omega (arith, six)) (list-small (keyIn (o .mode) xs) cancelled) (set-in-range old 2 a (omega (arith, j .six)) (expiry-small (o .date) (expiryIn (o .mode) xs)) (j .small));
-      verdicts = λ kind g. waits-on kind _ (ownFascn (o .mode) (f .first)) _ (verdictOn kind (f .verdicts)) (outcomeOf old (checkOf kind)) _ (ap (λ (x : Found). verdictOn kind (x .verdicts)) n) (set-other old a b (j .six) (place-of kind) (λ z. placed kind g .not-expiry (sym z)) (λ z. placed kind g .not-list (sym z))) (j .verdicts kind g);
+      small = set-in-range (set old 2 a) 3 b (omega (arith, six)) (list-small (keyRead (o .mode) xs) cancelled) (set-in-range old 2 a (omega (arith, j .six)) (expiry-small (o .date) (expiryRead (o .mode) xs)) (j .small));
+      verdicts = λ kind g. waits-on kind _ (ownFascn (o .mode) (f .step1)) _ (verdictOn kind (f .verdicts)) (outcomeOf old (checkServed kind)) _ (ap (λ (x : Found). verdictOn kind (x .verdicts)) n) (set-other old a b (j .six) (place-of kind) (λ z. placed kind g .not-expiry (sym z)) (λ z. placed kind g .not-list (sym z))) (j .verdicts kind g);
       expiry = set-three old a b (j .six);
       list = set-four old a b (j .six);
     }
@@ -110,58 +110,58 @@ after-one mode = go (hasStep2 mode) refl
     go true e = e
     go false e = refl
 
-one-stage : (mode : ℕ) (one : StepOne) → Stage (stepAfter mode 1) (record { first = Option.some one; second = Option.none; verdicts = [] })
+one-stage : (mode : ℕ) (one : StepOne) → Stage (stepAfter mode 1) (record { step1 = Option.some one; step2 = Option.none; verdicts = [] })
 one-stage mode one =
-    either (λ (n : ℕ). Stage n (record { first = Option.some one; second = Option.none; verdicts = [] })) (hasStep2 mode) (Stage.between refl one refl) (Stage.late refl one refl)
+    either (λ (n : ℕ). Stage n (record { step1 = Option.some one; step2 = Option.none; verdicts = [] })) (hasStep2 mode) (Stage.between refl one refl) (Stage.late refl one refl)
 
-one-end : (r : Reading) (m m′ xs cancelled : List ℕ) → Invariant r m → Leaves r m′ → r .course .step ≡ 1 → Bytes xs → Kept xs m′ 0 → joinedCause (r .opening .mode) 1 xs ≡ 0
-    → Invariant (firstEnd r xs cancelled) m′
+one-end : (r : Reading) (m m′ xs cancelled : List ℕ) → Invariant r m → Leaves r m′ → r .progress .step ≡ 1 → Bytes xs → Held xs m′ 0 → joinedCause (r .opening .mode) 1 xs ≡ 0
+    → Invariant (step1End r xs cancelled) m′
 one-end r m m′ xs cancelled i l e b k good =
     let mode = r .opening .mode in
     let one : StepOne = record { joined = xs; cancelled = cancelled } in
-    let n = early-found (r .course .step) (r .found) e (i .stage) in
+    let n = early-found (r .progress .step) (r .found) e (i .stage) in
     record {
       opening = i .opening;
-      course-good = begun-course mode (stepAfter mode 1) (after-one mode);
+      progress-good = begun-progress mode (stepAfter mode 1) (after-one mode);
       held = refl;
       one = (one-good mode xs cancelled b good, k);
       two = l .two;
-      stage = subst (λ (f : Found). Stage (stepAfter mode 1) (record { first = Option.some one; second = f .second; verdicts = f .verdicts })) (sym n) (one-stage mode one);
+      stage = subst (λ (f : Found). Stage (stepAfter mode 1) (record { step1 = Option.some one; step2 = f .step2; verdicts = f .verdicts })) (sym n) (one-stage mode one);
       judged = one-judged (r .opening) (r .outcomes) (r .found) xs cancelled n (i .judged);
     }
 
 -- ---- step 2
 
-two-end : (r : Reading) (m m′ xs : List ℕ) → Invariant r m → Leaves r m′ → r .course .step ≡ 2 → Kept xs m′ 4096
-    → Invariant (secondEnd r xs) m′
+two-end : (r : Reading) (m m′ xs : List ℕ) → Invariant r m → Leaves r m′ → r .progress .step ≡ 2 → Held xs m′ 4096
+    → Invariant (step2End r xs) m′
 two-end r m m′ xs i l e k =
-    record { opening = i .opening; course-good = begun-course (r .opening .mode) 3 refl; held = refl; one = l .one; two = k; stage = up (r .course .step) (r .found) e (i .stage); judged = record { six = i .judged .six; small = i .judged .small; verdicts = i .judged .verdicts; expiry = i .judged .expiry; list = i .judged .list } }
+    record { opening = i .opening; progress-good = begun-progress (r .opening .mode) 3 refl; held = refl; one = l .one; two = k; stage = up (r .progress .step) (r .found) e (i .stage); judged = record { six = i .judged .six; small = i .judged .small; verdicts = i .judged .verdicts; expiry = i .judged .expiry; list = i .judged .list } }
   where
-    up : (step : ℕ) (f : Found) → step ≡ 2 → Stage step f → Stage 3 (record { first = f .first; second = Option.some xs; verdicts = f .verdicts })
+    up : (step : ℕ) (f : Found) → step ≡ 2 → Stage step f → Stage 3 (record { step1 = f .step1; step2 = Option.some xs; verdicts = f .verdicts })
     up step f z (Stage.early h n) = absurd (omega arith)
-    up step f z (Stage.between h one n) = Stage.late refl one (ap (λ (y : Found). y .first) n)
+    up step f z (Stage.between h one n) = Stage.late refl one (ap (λ (y : Found). y .step1) n)
     up step f z (Stage.late h one n) = absurd (omega arith)
 
 -- ---- any step
 
-pub good-end : (r : Reading) (m m′ xs cancelled : List ℕ) → Invariant r m → Leaves r m′ → r .course .step < 3 → length xs ≤ 4096 → Bytes xs
-    → take (length xs) (drop (baseOf (r .course .step)) m′) ≡ xs → joinedCause (r .opening .mode) (r .course .step) xs ≡ 0
-    → Leads (nextStep (session-of r) xs cancelled) m′ (goodEnd r xs cancelled)
-unfolding nextStep goodEnd
+pub good-end : (r : Reading) (m m′ xs cancelled : List ℕ) → Invariant r m → Leaves r m′ → r .progress .step < 3 → length xs ≤ 4096 → Bytes xs
+    → take (length xs) (drop (baseOf (r .progress .step)) m′) ≡ xs → joinedCause (r .opening .mode) (r .progress .step) xs ≡ 0
+    → StandsFor (goodEndSession (session-of r) xs cancelled) m′ (goodEnd r xs cancelled)
+unfolding goodEndSession goodEnd
 good-end r m m′ xs cancelled i l lt small b held good =
-    let step = r .course .step in
-    by-test (λ (s : Session) (q : Reading). Leads s m′ q) _ _ _ _ (eqb step 0)
+    let step = r .progress .step in
+    by-test (λ (s : Session) (q : Reading). StandsFor s m′ q) _ _ _ _ (eqb step 0)
     (λ e. record { object = m′; same = refl; holds = template-end r m m′ i l (eqb-true step 0 e) })
-    (λ e0. by-test (λ (s : Session) (q : Reading). Leads s m′ q) _ _ _ _ (eqb step 1)
+    (λ e0. by-test (λ (s : Session) (q : Reading). StandsFor s m′ q) _ _ _ _ (eqb step 1)
     (λ e. let e1 = eqb-true step 1 e in record { object = m′; same = refl; holds = one-end r m m′ xs cancelled i l e1 b (kept step 0 (ap baseOf e1) held) (subst (λ (n : ℕ). joinedCause (r .opening .mode) n xs ≡ 0) e1 good) })
-    (λ e1. let e2 = last step lt (eqb-false step 0 e0) (eqb-false step 1 e1) in record { object = m′; same = second step e2; holds = two-end r m m′ xs i l e2 (kept step 4096 (ap baseOf e2) held) }))
+    (λ e1. let e2 = last step lt (eqb-false step 0 e0) (eqb-false step 1 e1) in record { object = m′; same = at-step-2 step e2; holds = two-end r m m′ xs i l e2 (kept step 4096 (ap baseOf e2) held) }))
   where
     last : (n : ℕ) → n < 3 → (n ≡ 0 → ⊥) → (n ≡ 1 → ⊥) → n ≡ 2
     last n a p q = omega arith
 
-    second : (n : ℕ) → n ≡ 2
-        → _≡_ {A = Host} (record { session = secondRead (session-of r) (objectOf (kindAt (r .opening .mode) n) xs .1); object = m′ }) (record { session = secondRead (session-of r) (objectOf (kindAt (r .opening .mode) 2) xs .1); object = m′ })
-    second n e = rw e
+    at-step-2 : (n : ℕ) → n ≡ 2
+        → _≡_ {A = Host} (record { session = step2EndSession (session-of r) (objectOf (kindAt (r .opening .mode) n) xs .1); object = m′ }) (record { session = step2EndSession (session-of r) (objectOf (kindAt (r .opening .mode) 2) xs .1); object = m′ })
+    at-step-2 n e = rw e
 
-    kept : (step base : ℕ) → baseOf step ≡ base → take (length xs) (drop (baseOf step) m′) ≡ xs → Kept xs m′ base
+    kept : (step base : ℕ) → baseOf step ≡ base → take (length xs) (drop (baseOf step) m′) ≡ xs → Held xs m′ base
     kept step base e h = record { whole = l .size; small = small; held = rw e at h }

@@ -10,15 +10,15 @@ use native.Mathlib.Omega.{arith}
 use borrow.Author.Tests.{eqb-true, eqb-false, leb-true, le-leb}
 use lib.Dec.{eqb, leb}
 use lib.ListN.{length, getD}
-use Rattle.card.specs.Range.{sameBytes}
-use Rattle.card.proofs.RangeLaws.{all-at, all-of}
+use Rattle.card.specs.Lists.{sameBytes}
+use Rattle.card.proofs.ListsLaws.{all-at, all-of}
 use Rattle.card.proofs.FascnLaws.{same-bytes, same-refl}
-use Rattle.session.specs.Tables.{checks, goodKind, needs, isIn, checkOf, outcomeOf, passed, unneeded, failed, otherCard, verdictOutcome, expiryOutcome, listed, listOutcome, lowestFrom, causeOf, allPassed, standingOf, fascnIn, keyIn, expiryIn}
+use Rattle.session.specs.Tables.{checks, goodKind, needs, isIn, checkServed, outcomeOf, passed, unneeded, failed, otherCard, verdictOutcome, expiryOutcome, listed, listOutcome, lowestFrom, causeOf, allPassed, standingOf, fascnRead, keyRead, expiryRead}
 use Rattle.session.specs.Reading.{Opening, StepOne, Verdict, Found, Reading, ownFascn}
 use Rattle.session.specs.Finding.{finding, standing, Granted}
 use Rattle.session.proofs.TestLaws.{clash, and-left, and-right, either}
 use Rattle.session.proofs.OutcomeLaws.{place-of, placed}
-use Rattle.session.proofs.Invariant.{Stage, Heard, ExpiryJudged, ListJudged, Judged, Invariant}
+use Rattle.session.proofs.Invariant.{Stage, VerdictGave, ExpiryJudged, ListJudged, Judged, Invariant}
 
 -- ---- checks and kinds
 
@@ -33,12 +33,12 @@ needs-both mode =
     (either Both (eqb mode 2) {x = 3 ∷ 4 ∷ 5 ∷ []} (refl, refl) (either Both (eqb mode 3) {x = 1 ∷ 2 ∷ 3 ∷ 4 ∷ 6 ∷ []} {y = 1 ∷ 2 ∷ 3 ∷ 4 ∷ 5 ∷ 6 ∷ []} (refl, refl) (refl, refl)))
 
 -- checks 3 and 4, where step 1 has ended well
-expiry-judged : {p : Opening} {o : List ℕ} {f : Found} {one : StepOne} → Judged p o f → f .first ≡ Option.some one
-    → outcomeOf o 3 ≡ expiryOutcome (p .date) (expiryIn (p .mode) (one .joined))
+expiry-judged : {p : Opening} {o : List ℕ} {f : Found} {one : StepOne} → Judged p o f → f .step1 ≡ Option.some one
+    → outcomeOf o 3 ≡ expiryOutcome (p .date) (expiryRead (p .mode) (one .joined))
 expiry-judged {p} {o} j e = subst (ExpiryJudged (p .mode) (p .date) o) e (j .expiry)
 
-list-judged : {p : Opening} {o : List ℕ} {f : Found} {one : StepOne} → Judged p o f → f .first ≡ Option.some one
-    → outcomeOf o 4 ≡ listOutcome (keyIn (p .mode) (one .joined)) (one .cancelled)
+list-judged : {p : Opening} {o : List ℕ} {f : Found} {one : StepOne} → Judged p o f → f .step1 ≡ Option.some one
+    → outcomeOf o 4 ≡ listOutcome (keyRead (p .mode) (one .joined)) (one .cancelled)
 list-judged {p} {o} j e = subst (ListJudged (p .mode) o) e (j .list)
 
 -- ---- granted, from the standing
@@ -74,9 +74,9 @@ not-listed-by key cancelled e = go (listed key cancelled) e
     go false q = refl
 
 -- the verdict that passed was a yes on the card's own bytes
-yes-by : (own : List ℕ) (says : ℕ) (fascn : List ℕ) → verdictOutcome own says fascn ≡ passed → (says ≡ 0 → ⊥) × (fascn ≡ own)
+yes-by : (own : List ℕ) (yesNo : ℕ) (fascn : List ℕ) → verdictOutcome own yesNo fascn ≡ passed → (yesNo ≡ 0 → ⊥) × (fascn ≡ own)
 unfolding verdictOutcome
-yes-by own says fascn e = let q = go (eqb says 0) (sameBytes fascn own) e in (eqb-false says 0 (q .0), same-bytes fascn own (q .1))
+yes-by own yesNo fascn e = let q = go (eqb yesNo 0) (sameBytes fascn own) e in (eqb-false yesNo 0 (q .0), same-bytes fascn own (q .1))
   where
     go : (a b : Bool) → cond {A = ℕ} a failed (cond b passed otherCard) ≡ passed → (a ≡ false) × (b ≡ true)
     go true b q = absurd (omega arith)
@@ -84,16 +84,16 @@ yes-by own says fascn e = let q = go (eqb says 0) (sameBytes fascn own) e in (eq
     go false false q = absurd (omega arith)
 
 -- so of a needed kind that passed such a verdict was accepted
-heard-yes : (kind : ℕ) (needed : Bool) (own : List ℕ) (v : Option Verdict) (o : ℕ) → Heard kind needed own v o → needed ≡ true → o ≡ passed
-    → v ≡ Option.some (record { kind = kind; says = 1; fascn = own })
-heard-yes kind needed own v o (Heard.unheard n e) t p = let h : _≡_ {A = ℕ} 1 2 = sym (ap (λ (b : Bool). cond b 1 0) t) ∙ sym e ∙ p in absurd (omega arith)
-heard-yes kind needed own v o (Heard.heard says fascn n c le e) t p =
-    let y = yes-by own says fascn (sym e ∙ p) in
-    let one : says ≡ 1 = omega (arith, le, y .0) in
+heard-yes : (kind : ℕ) (needed : Bool) (own : List ℕ) (v : Option Verdict) (o : ℕ) → VerdictGave kind needed own v o → needed ≡ true → o ≡ passed
+    → v ≡ Option.some (record { kind = kind; yesNo = 1; fascn = own })
+heard-yes kind needed own v o (VerdictGave.awaiting n e) t p = let h : _≡_ {A = ℕ} 1 2 = sym (ap (λ (b : Bool). cond b 1 0) t) ∙ sym e ∙ p in absurd (omega arith)
+heard-yes kind needed own v o (VerdictGave.taken yesNo fascn n c le e) t p =
+    let y = yes-by own yesNo fascn (sym e ∙ p) in
+    let one : yesNo ≡ 1 = omega (arith, le, y .0) in
     n ∙ rw (one, y .1) refl
 
 -- at step 3 step 1 has ended well
-late-one : (step : ℕ) (f : Found) → Stage step f → step ≡ 3 → (one : StepOne) × (f .first ≡ Option.some one)
+late-one : (step : ℕ) (f : Found) → Stage step f → step ≡ 3 → (one : StepOne) × (f .step1 ≡ Option.some one)
 late-one step f (Stage.early l e) z = absurd (omega arith)
 late-one step f (Stage.between l x e) z = absurd (omega arith)
 late-one step f (Stage.late l x e) z = (x, e)
@@ -104,12 +104,12 @@ grants r m i e =
     let mode = r .opening .mode in
     let o = r .outcomes in
     let j = i .judged in
-    let k = stands (not (eqb (causeOf (r .course .cause) o) 0)) (eqb (r .course .step) 3 && allPassed mode o) e in
-    let last : r .course .step ≡ 3 = eqb-true (r .course .step) 3 (and-left _ _ k) in
-    let p = passed-at mode o (and-right (eqb (r .course .step) 3) (allPassed mode o) k) in
-    let x = late-one (r .course .step) (r .found) (i .stage) last in
+    let k = stands (not (eqb (causeOf (r .progress .cause) o) 0)) (eqb (r .progress .step) 3 && allPassed mode o) e in
+    let last : r .progress .step ≡ 3 = eqb-true (r .progress .step) 3 (and-left _ _ k) in
+    let p = passed-at mode o (and-right (eqb (r .progress .step) 3) (allPassed mode o) k) in
+    let x = late-one (r .progress .step) (r .found) (i .stage) last in
     let one = x .0 in
-    let own : ownFascn mode (r .found .first) ≡ fascnIn mode (one .joined) = ap (ownFascn mode) (x .1) in
+    let own : ownFascn mode (r .found .step1) ≡ fascnRead mode (one .joined) = ap (ownFascn mode) (x .1) in
     record {
       all-read = last;
       one = one;
@@ -127,21 +127,21 @@ unfolding lowestFrom
 none-failed c [] h = refl
 none-failed c (v ∷ o) h = rw (h 0 (omega arith)) (none-failed (suc c) o (λ i l. h (suc i) (omega arith)))
 
--- what a verdict says, and of which bytes
+-- what a verdict yesNo, and of which bytes
 abbrev said : Option Verdict → ℕ × List ℕ
 said Option.none = (0, [])
-said (Option.some v) = (v .says, v .fascn)
+said (Option.some v) = (v .yesNo, v .fascn)
 
 -- the outcome of a kind whose verdict, where it is needed, was a yes on the card's own bytes
-yes-heard : (kind : ℕ) (needed : Bool) (own : List ℕ) (v : Option Verdict) (o : ℕ) → Heard kind needed own v o
-    → (needed ≡ true → v ≡ Option.some (record { kind = kind; says = 1; fascn = own })) → o ≡ cond needed passed unneeded
+yes-taken : (kind : ℕ) (needed : Bool) (own : List ℕ) (v : Option Verdict) (o : ℕ) → VerdictGave kind needed own v o
+    → (needed ≡ true → v ≡ Option.some (record { kind = kind; yesNo = 1; fascn = own })) → o ≡ cond needed passed unneeded
 unfolding verdictOutcome
-yes-heard kind false own v o (Heard.unheard n e) h = e
-yes-heard kind false own v o (Heard.heard says fascn n c le e) h = clash c
-yes-heard kind true own v o (Heard.unheard n e) h = let q : _≡_ {A = ℕ} 0 1 = ap (λ (w : Option Verdict). said w .0) (sym n ∙ h refl) in absurd (omega arith)
-yes-heard kind true own v o (Heard.heard says fascn n c le e) h =
+yes-taken kind false own v o (VerdictGave.awaiting n e) h = e
+yes-taken kind false own v o (VerdictGave.taken yesNo fascn n c le e) h = clash c
+yes-taken kind true own v o (VerdictGave.awaiting n e) h = let q : _≡_ {A = ℕ} 0 1 = ap (λ (w : Option Verdict). said w .0) (sym n ∙ h refl) in absurd (omega arith)
+yes-taken kind true own v o (VerdictGave.taken yesNo fascn n c le e) h =
     let z = sym (ap said n) ∙ ap said (h refl) in
-    let one : says ≡ 1 = ap (λ (p : ℕ × List ℕ). p .0) z in
+    let one : yesNo ≡ 1 = ap (λ (p : ℕ × List ℕ). p .0) z in
     let same : fascn ≡ own = ap (λ (p : ℕ × List ℕ). p .1) z in
     e ∙ rw (one, same, same-refl own) refl
 
@@ -157,15 +157,15 @@ six P a b c d e f (suc (suc (suc (suc (suc (suc i)))))) h = absurd (omega arith)
 
 -- every outcome is then 2 where the check is needed, and 0 elsewhere
 settled : (r : Reading) (m : List ℕ) → Invariant r m → Granted r → (i : ℕ) → i < checks → getD (r .outcomes) i 0 ≡ cond (needs (r .opening .mode) (i + 1)) passed unneeded
-unfolding checkOf expiryOutcome listOutcome
+unfolding checkServed expiryOutcome listOutcome
 settled r m i g =
     let mode = r .opening .mode in
     let o = r .outcomes in
     let one = g .one in
     let j = i .judged in
-    let own : ownFascn mode (r .found .first) ≡ fascnIn mode (one .joined) = ap (ownFascn mode) (g .read) in
-    let by-kind : (kind : ℕ) → goodKind kind ≡ true → outcomeOf o (checkOf kind) ≡ cond (needs mode (checkOf kind)) passed unneeded =
-    λ kind good. yes-heard kind _ _ _ _ (j .verdicts kind good) (λ n. rw own (g .verdicts kind good n)) in
+    let own : ownFascn mode (r .found .step1) ≡ fascnRead mode (one .joined) = ap (ownFascn mode) (g .read) in
+    let by-kind : (kind : ℕ) → goodKind kind ≡ true → outcomeOf o (checkServed kind) ≡ cond (needs mode (checkServed kind)) passed unneeded =
+    λ kind good. yes-taken kind _ _ _ _ (j .verdicts kind good) (λ n. rw own (g .verdicts kind good n)) in
     six (λ (k : ℕ). getD o k 0 ≡ cond (needs mode (k + 1)) passed unneeded) (by-kind 1 refl) (by-kind 2 refl)
     (rw (needs-both mode .0) (expiry-judged j (g .read) ∙ rw (le-leb _ _ (g .in-time)) refl)) (rw (needs-both mode .1) (list-judged j (g .read) ∙ rw (g .not-listed) refl)) (by-kind 3 refl) (by-kind 4 refl)
 
@@ -185,7 +185,7 @@ granted r m i g =
     let s = settled r m i g in
     let low : lowestFrom 1 o ≡ 0 = none-failed 1 o (λ k h. rw (s k (rw (i .judged .six) at h)) (sound (needs mode (k + 1)))) in
     let all-passed : allPassed mode o ≡ true = all-of _ checks (λ k h. rw (s k h) (passes (needs mode (k + 1)))) in
-    rw (g .all-read, i .course-good .no-cause (g .all-read), low, all-passed) refl
+    rw (g .all-read, i .progress-good .no-cause (g .all-read), low, all-passed) refl
 
 -- the standing is 1 exactly where the calls say granted
 pub granted-iff : (r : Reading) (m : List ℕ) → Invariant r m → (standing (finding r) ≡ 1) ↔ Granted r

@@ -16,17 +16,17 @@ use Rattle.card.specs.Command.{aidRefused}
 use Rattle.card.specs.declared.object.Part.{Part}
 use Rattle.card.specs.declared.object.Kind.{Kind}
 use Rattle.card.specs.declared.object.Kind.the-variants.{Signed}
-use Rattle.card.proofs.RangeLaws.{all-of}
+use Rattle.card.proofs.ListsLaws.{all-of}
 use Rattle.card.proofs.TlvLaws.{header-empty}
 use Rattle.card.proofs.ObjectLaws.{AllInside, parts-inside}
 use Rattle.card.proofs.DateLaws.{date-real}
-use Rattle.session.specs.Tables.{goodMode, kindAt, baseOf, objectSize, expiryIn}
+use Rattle.session.specs.Tables.{goodMode, kindAt, baseOf, objectSize, expiryRead}
 use Rattle.session.specs.Reading.{Opening, StepOne, Reading}
-use Rattle.session.specs.Ranges.{settingInRange, partInside, partsInside, cardInRange, inRange}
+use Rattle.session.specs.Ranges.{openingInRange, partInside, partsInside, cardInRange, inRange}
 use Rattle.session.specs.Operation.{noParts}
 use Rattle.session.specs.Promise.{goodOpening}
 use Rattle.session.proofs.TestLaws.{and-left, and-right, and-both}
-use Rattle.session.proofs.Invariant.{setting-of, expiry-of, parts-one, parts-two, card-of, session-of, OneKept, TwoKept, Invariant}
+use Rattle.session.proofs.Invariant.{opening-of, expiry-of, parts-one, parts-two, card-of, session-of, OneHeld, TwoHeld, Invariant}
 
 -- ---- parts
 
@@ -54,30 +54,30 @@ no-parts-in-range base hb = subst (λ (ps : List Part). partsInside base ps ≡ 
 
 -- ---- the groups
 
-setting-in-range : (o : Opening) → goodOpening o ≡ true → settingInRange (setting-of o) ≡ true
-setting-in-range o e =
+opening-in-range : (o : Opening) → goodOpening o ≡ true → openingInRange (opening-of o) ≡ true
+opening-in-range o e =
     let a = goodMode (o .mode) && realDate (o .date) in
     and-both (and-left a (not (aidRefused (o .aid))) e) (not-false _ (not-true _ (and-right a (not (aidRefused (o .aid))) e)))
 
-card-in-range : (mode : ℕ) (one : Option StepOne) (two : Option (List ℕ)) (m : List ℕ) → OneKept mode one m → TwoKept two m → cardInRange (card-of mode one two) ≡ true
-card-in-range mode one two m a b = and-both (expiry one a) (and-both (first one a) (second two b))
+card-in-range : (mode : ℕ) (one : Option StepOne) (two : Option (List ℕ)) (m : List ℕ) → OneHeld mode one m → TwoHeld two m → cardInRange (card-of mode one two) ≡ true
+card-in-range mode one two m a b = and-both (expiry one a) (and-both (step1 one a) (step2 two b))
   where
-    expiry : (one : Option StepOne) → OneKept mode one m → eqb (expiry-of mode one) 0 || realDate (expiry-of mode one) ≡ true
+    expiry : (one : Option StepOne) → OneHeld mode one m → eqb (expiry-of mode one) 0 || realDate (expiry-of mode one) ≡ true
     expiry Option.none a = refl
-    expiry (Option.some f) a = rw (date-real (fieldValue (kindAt mode 1) 0x35 (f .joined)) (a .0 .date)) (or-true (eqb (expiryIn mode (f .joined)) 0))
+    expiry (Option.some f) a = rw (date-real (fieldValue (kindAt mode 1) 0x35 (f .joined)) (a .0 .date)) (or-true (eqb (expiryRead mode (f .joined)) 0))
 
-    first : (one : Option StepOne) → OneKept mode one m → partsInside (baseOf 1) (parts-one mode one) ≡ true
-    first Option.none a = no-parts-in-range 0 (omega arith)
-    first (Option.some f) a = parts-in-range 0 (kindAt mode 1) (f .joined) (omega arith) (a .1 .small)
+    step1 : (one : Option StepOne) → OneHeld mode one m → partsInside (baseOf 1) (parts-one mode one) ≡ true
+    step1 Option.none a = no-parts-in-range 0 (omega arith)
+    step1 (Option.some f) a = parts-in-range 0 (kindAt mode 1) (f .joined) (omega arith) (a .1 .small)
 
-    second : (two : Option (List ℕ)) → TwoKept two m → partsInside (baseOf 2) (parts-two mode two) ≡ true
-    second Option.none b = no-parts-in-range 4096 (omega arith)
-    second (Option.some xs) b = parts-in-range 4096 (kindAt mode 2) xs (omega arith) (b .small)
+    step2 : (two : Option (List ℕ)) → TwoHeld two m → partsInside (baseOf 2) (parts-two mode two) ≡ true
+    step2 Option.none b = no-parts-in-range 4096 (omega arith)
+    step2 (Option.some xs) b = parts-in-range 4096 (kindAt mode 2) xs (omega arith) (b .small)
 
 pub in-range : (r : Reading) (m : List ℕ) → Invariant r m → inRange (session-of r) ≡ true
 unfolding inRange
 in-range r m i =
-    let s = i .course-good in
+    let s = i .progress-good in
     and-both
-    (and-both (setting-in-range (r .opening) (i .opening)) (and-both (and-both (s .step) (le-leb _ _ (s .filled))) (and-both (s .cause) (s .outstanding))))
-    (and-both (i .judged .small) (card-in-range (r .opening .mode) (r .found .first) (r .found .second) m (i .one) (i .two)))
+    (and-both (opening-in-range (r .opening) (i .opening)) (and-both (and-both (s .step) (le-leb _ _ (s .filled))) (and-both (s .cause) (s .outstanding))))
+    (and-both (i .judged .small) (card-in-range (r .opening .mode) (r .found .step1) (r .found .step2) m (i .one) (i .two)))

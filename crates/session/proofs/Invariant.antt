@@ -6,35 +6,35 @@ use mathlib.Core.Option.{Option}
 use mathlib.Core.List.{List, []}
 use Prim.Native.Nat.{ℕ, _≤_, _<_}
 use lib.ListN.{length, take, drop, replicate}
-use Rattle.card.specs.Range.{front}
+use Rattle.card.specs.Lists.{overFront}
 use Rattle.card.specs.Fascn.{unpackOf}
 use Rattle.card.specs.Object.{objectOf, fieldValue}
 use Rattle.card.specs.Date.{dateOf}
 use Rattle.card.specs.declared.object.Part.{Part}
-use Rattle.session.specs.Tables.{checks, goodKind, needs, checkOf, outcomeOf, verdictOutcome, expiryOutcome, listOutcome, kindAt, baseOf, objectSize, fascnIn, keyIn, expiryIn}
-use Rattle.session.specs.Reading.{Opening, Course, StepOne, Verdict, Found, Reading, ownFascn}
+use Rattle.session.specs.Tables.{checks, goodKind, needs, checkServed, outcomeOf, verdictOutcome, expiryOutcome, listOutcome, kindAt, baseOf, objectSize, fascnRead, keyRead, expiryRead}
+use Rattle.session.specs.Reading.{Opening, Progress, StepOne, Verdict, Found, Reading, ownFascn}
 use Rattle.session.specs.Finding.{verdictOn}
 use Rattle.session.specs.Ranges.{stepInRange, causeInRange, outstandingInRange, outcomesInRange}
 use Rattle.session.specs.Operation.{noParts}
 use Rattle.session.specs.Tables.{statusShown}
 use Rattle.session.specs.Promise.{Bytes, Host, goodOpening}
-use Rattle.session.specs.declared.state.Setting.{Setting}
-use Rattle.session.specs.declared.state.Progress.{Progress}
+use Rattle.session.specs.declared.state.SessionOpening.{SessionOpening}
+use Rattle.session.specs.declared.state.SessionProgress.{SessionProgress}
 use Rattle.session.specs.declared.state.Card.{Card}
 use Rattle.session.specs.declared.state.Session.{Session}
 
 -- ---- the session that stands for a reading
 
-abbrev pub setting-of : Opening → Setting
-setting-of o = record { mode = o .mode; date = o .date; aid = front (o .aid) (replicate 16 0); «aid_len» = length (o .aid) }
+abbrev pub opening-of : Opening → SessionOpening
+opening-of o = record { mode = o .mode; date = o .date; aid = overFront (o .aid) (replicate 16 0); «aid_len» = length (o .aid) }
 
-abbrev pub progress-of : Course → Progress
+abbrev pub progress-of : Progress → SessionProgress
 progress-of c =
     record { step = c .step; filled = length (c .joined); outstanding = c .outstanding; next = c .next; cause = c .cause; sw1 = c .sw1; sw2 = c .sw2 }
 
 abbrev pub expiry-of : ℕ → Option StepOne → ℕ
 expiry-of mode Option.none = 0
-expiry-of mode (Option.some f) = expiryIn mode (f .joined)
+expiry-of mode (Option.some f) = expiryRead mode (f .joined)
 
 abbrev pub parts-one : ℕ → Option StepOne → List Part
 parts-one mode Option.none = noParts
@@ -45,11 +45,11 @@ parts-two mode Option.none = noParts
 parts-two mode (Option.some joined) = objectOf (kindAt mode 2) joined .1
 
 abbrev pub card-of : ℕ → Option StepOne → Option (List ℕ) → Card
-card-of mode one two = record { fascn = ownFascn mode one; expiry = expiry-of mode one; first = parts-one mode one; second = parts-two mode two }
+card-of mode one two = record { fascn = ownFascn mode one; expiry = expiry-of mode one; step1 = parts-one mode one; step2 = parts-two mode two }
 
 abbrev pub session-of : Reading → Session
 session-of r =
-    record { setting = setting-of (r .opening); progress = progress-of (r .course); outcomes = r .outcomes; card = card-of (r .opening .mode) (r .found .first) (r .found .second) }
+    record { opening = opening-of (r .opening); progress = progress-of (r .progress); outcomes = r .outcomes; card = card-of (r .opening .mode) (r .found .step1) (r .found .step2) }
 
 abbrev pub host-of : Reading → List ℕ → Host
 host-of r m = record { session = session-of r; object = m }
@@ -57,7 +57,7 @@ host-of r m = record { session = session-of r; object = m }
 -- ---- what is known of the good ends of steps 1 and 2
 
 -- the object buffer has a step's joined data from the step's base on
-pub record Kept (xs m : List ℕ) (base : ℕ) : Type 0 where
+pub record Held (xs m : List ℕ) (base : ℕ) : Type 0 where
   pub whole : length m ≡ objectSize
   pub small : length xs ≤ 4096
   pub held : take (length xs) (drop base m) ≡ xs
@@ -65,53 +65,53 @@ pub record Kept (xs m : List ℕ) (base : ℕ) : Type 0 where
 -- step 1's joined data is an object with a well-formed FASC-N and a date
 pub record GoodOne (mode : ℕ) (f : StepOne) : Type 0 where
   pub object : objectOf (kindAt mode 1) (f .joined) .0 ≡ 0
-  pub fascn : unpackOf (fascnIn mode (f .joined)) .0 ≡ 0
+  pub fascn : unpackOf (fascnRead mode (f .joined)) .0 ≡ 0
   pub date : dateOf (fieldValue (kindAt mode 1) 0x35 (f .joined)) .0 ≡ 0
   pub bytes : Bytes (f .joined)
 
-abbrev pub OneKept : ℕ → Option StepOne → List ℕ → Type 0
-OneKept mode Option.none m = Unit
-OneKept mode (Option.some f) m = GoodOne mode f × Kept (f .joined) m 0
+abbrev pub OneHeld : ℕ → Option StepOne → List ℕ → Type 0
+OneHeld mode Option.none m = Unit
+OneHeld mode (Option.some f) m = GoodOne mode f × Held (f .joined) m 0
 
-abbrev pub TwoKept : Option (List ℕ) → List ℕ → Type 0
-TwoKept Option.none m = Unit
-TwoKept (Option.some joined) m = Kept joined m 4096
+abbrev pub TwoHeld : Option (List ℕ) → List ℕ → Type 0
+TwoHeld Option.none m = Unit
+TwoHeld (Option.some joined) m = Held joined m 4096
 
 -- what is found by a step
 pub data Stage (step : ℕ) (f : Found) : Type 0 where
-  early : step < 2 → f ≡ record { first = Option.none; second = Option.none; verdicts = [] } → Stage step f
-  between : step ≡ 2 → (one : StepOne) → f ≡ record { first = Option.some one; second = Option.none; verdicts = [] } → Stage step f
-  late : step ≡ 3 → (one : StepOne) → f .first ≡ Option.some one → Stage step f
+  early : step < 2 → f ≡ record { step1 = Option.none; step2 = Option.none; verdicts = [] } → Stage step f
+  between : step ≡ 2 → (one : StepOne) → f ≡ record { step1 = Option.some one; step2 = Option.none; verdicts = [] } → Stage step f
+  late : step ≡ 3 → (one : StepOne) → f .step1 ≡ Option.some one → Stage step f
 
 -- ---- the outcomes, by what gave them
 
 -- the outcome of a verdict kind, which the mode needs or not: awaited or unneeded, or what an accepted verdict gave
-pub data Heard (kind : ℕ) (needed : Bool) (own : List ℕ) (v : Option Verdict) (o : ℕ) : Type 0 where
-  unheard : v ≡ Option.none → o ≡ cond needed 1 0 → Heard kind needed own v o
-  heard : (says : ℕ) (fascn : List ℕ) → v ≡ Option.some (record { kind = kind; says = says; fascn = fascn }) → needed ≡ true → says ≤ 1 → o ≡ verdictOutcome own says fascn
-      → Heard kind needed own v o
+pub data VerdictGave (kind : ℕ) (needed : Bool) (own : List ℕ) (v : Option Verdict) (o : ℕ) : Type 0 where
+  awaiting : v ≡ Option.none → o ≡ cond needed 1 0 → VerdictGave kind needed own v o
+  taken : (yesNo : ℕ) (fascn : List ℕ) → v ≡ Option.some (record { kind = kind; yesNo = yesNo; fascn = fascn }) → needed ≡ true → yesNo ≤ 1 → o ≡ verdictOutcome own yesNo fascn
+      → VerdictGave kind needed own v o
 
 -- checks 3 and 4, once step 1 has ended well
 abbrev pub ExpiryJudged : ℕ → ℕ → List ℕ → Option StepOne → Type 0
 ExpiryJudged mode date o Option.none = Unit
-ExpiryJudged mode date o (Option.some f) = outcomeOf o 3 ≡ expiryOutcome date (expiryIn mode (f .joined))
+ExpiryJudged mode date o (Option.some f) = outcomeOf o 3 ≡ expiryOutcome date (expiryRead mode (f .joined))
 
 abbrev pub ListJudged : ℕ → List ℕ → Option StepOne → Type 0
 ListJudged mode o Option.none = Unit
-ListJudged mode o (Option.some f) = outcomeOf o 4 ≡ listOutcome (keyIn mode (f .joined)) (f .cancelled)
+ListJudged mode o (Option.some f) = outcomeOf o 4 ≡ listOutcome (keyRead mode (f .joined)) (f .cancelled)
 
 pub record Judged (opening : Opening) (o : List ℕ) (f : Found) : Type 0 where
   pub six : length o ≡ checks
   pub small : outcomesInRange o ≡ true
   pub verdicts : (kind : ℕ) → goodKind kind ≡ true
-      → Heard kind (needs (opening .mode) (checkOf kind)) (ownFascn (opening .mode) (f .first)) (verdictOn kind (f .verdicts)) (outcomeOf o (checkOf kind))
-  pub expiry : ExpiryJudged (opening .mode) (opening .date) o (f .first)
-  pub list : ListJudged (opening .mode) o (f .first)
+      → VerdictGave kind (needs (opening .mode) (checkServed kind)) (ownFascn (opening .mode) (f .step1)) (verdictOn kind (f .verdicts)) (outcomeOf o (checkServed kind))
+  pub expiry : ExpiryJudged (opening .mode) (opening .date) o (f .step1)
+  pub list : ListJudged (opening .mode) o (f .step1)
 
 -- ---- all that is known
 
 -- of the course of the reading, in a mode
-pub record GoodCourse (mode : ℕ) (c : Course) : Type 0 where
+pub record GoodProgress (mode : ℕ) (c : Progress) : Type 0 where
   pub step : stepInRange mode (c .step) ≡ true
   pub filled : length (c .joined) ≤ 4096
   pub cause : causeInRange (c .cause) ≡ true
@@ -125,22 +125,22 @@ pub record GoodCourse (mode : ℕ) (c : Course) : Type 0 where
 
 pub record Invariant (r : Reading) (m : List ℕ) : Type 0 where
   pub opening : goodOpening (r .opening) ≡ true
-  pub course-good : GoodCourse (r .opening .mode) (r .course)
-  pub held : take (length (r .course .joined)) (drop (baseOf (r .course .step)) m) ≡ r .course .joined
-  pub one : OneKept (r .opening .mode) (r .found .first) m
-  pub two : TwoKept (r .found .second) m
-  pub stage : Stage (r .course .step) (r .found)
+  pub progress-good : GoodProgress (r .opening .mode) (r .progress)
+  pub held : take (length (r .progress .joined)) (drop (baseOf (r .progress .step)) m) ≡ r .progress .joined
+  pub one : OneHeld (r .opening .mode) (r .found .step1) m
+  pub two : TwoHeld (r .found .step2) m
+  pub stage : Stage (r .progress .step) (r .found)
   pub judged : Judged (r .opening) (r .outcomes) (r .found)
 
 -- a host whose session stands for a reading, with a buffer of which all this holds
-pub record Reaches (h : Host) (r : Reading) : Type 0 where
+pub record HostStandsFor (h : Host) (r : Reading) : Type 0 where
   pub object : List ℕ
   pub same : h ≡ host-of r object
   pub holds : Invariant r object
 
 -- the same of its session and its buffer
-abbrev pub Leads : Session → List ℕ → Reading → Type 0
-Leads s m r = Reaches (record { session = s; object = m }) r
+abbrev pub StandsFor : Session → List ℕ → Reading → Type 0
+StandsFor s m r = HostStandsFor (record { session = s; object = m }) r
 
-pub stays : (r : Reading) (m : List ℕ) → Invariant r m → Reaches (host-of r m) r
+pub stays : (r : Reading) (m : List ℕ) → Invariant r m → HostStandsFor (host-of r m) r
 stays r m i = record { object = m; same = refl; holds = i }

@@ -7,24 +7,24 @@ use Rattle.card.specs.Fascn.{unpackOf}
 use Rattle.card.specs.Object.{objectOf, fieldValue}
 use Rattle.card.specs.Date.{dateOf}
 use Rattle.card.specs.declared.object.Part.{Part}
-use Rattle.session.specs.Tables.{kindAt, fascnIn, objectCause, joinedCause}
-use Rattle.session.specs.Operation.{ended, withProgress, nextStep, judgedSession}
+use Rattle.session.specs.Tables.{kindAt, fascnRead, objectCause, joinedCause}
+use Rattle.session.specs.Operation.{progressStopped, withSessionProgress, goodEndSession, judgedSession}
 use Rattle.session.specs.declared.state.Session.{Session}
 use Rattle.session.proofs.CallLaws.{none, some}
 
-pub first-fascn : (s : Session) (joined cancelled : List ℕ) {parts : List Part} {n : ℕ} → s .progress .step ≡ 1 → objectOf (kindAt (s .setting .mode) 1) joined ≡ (0, parts)
-    → n ≡ unpackOf (fascnIn (s .setting .mode) joined) .0 → (n ≡ 0 → ⊥) → judgedSession s joined cancelled ≡ withProgress s (ended (s .progress) 21 0 0)
+pub step1-fascn : (s : Session) (joined cancelled : List ℕ) {parts : List Part} {n : ℕ} → s .progress .step ≡ 1 → objectOf (kindAt (s .opening .mode) 1) joined ≡ (0, parts)
+    → n ≡ unpackOf (fascnRead (s .opening .mode) joined) .0 → (n ≡ 0 → ⊥) → judgedSession s joined cancelled ≡ withSessionProgress s (progressStopped (s .progress) 21 0 0)
 unfolding judgedSession joinedCause objectCause
-first-fascn s joined cancelled e f u h = rw (e, f, some u h)
+step1-fascn s joined cancelled e f u h = rw (e, f, some u h)
 
-pub first-date : (s : Session) (joined cancelled : List ℕ) {parts : List Part} {n d : ℕ} → s .progress .step ≡ 1 → objectOf (kindAt (s .setting .mode) 1) joined ≡ (0, parts)
-    → n ≡ unpackOf (fascnIn (s .setting .mode) joined) .0 → n ≡ 0 → d ≡ dateOf (fieldValue (kindAt (s .setting .mode) 1) 0x35 joined) .0 → (d ≡ 0 → ⊥)
-    → judgedSession s joined cancelled ≡ withProgress s (ended (s .progress) 22 0 0)
+pub step1-date : (s : Session) (joined cancelled : List ℕ) {parts : List Part} {n d : ℕ} → s .progress .step ≡ 1 → objectOf (kindAt (s .opening .mode) 1) joined ≡ (0, parts)
+    → n ≡ unpackOf (fascnRead (s .opening .mode) joined) .0 → n ≡ 0 → d ≡ dateOf (fieldValue (kindAt (s .opening .mode) 1) 0x35 joined) .0 → (d ≡ 0 → ⊥)
+    → judgedSession s joined cancelled ≡ withSessionProgress s (progressStopped (s .progress) 22 0 0)
 unfolding judgedSession joinedCause objectCause
-first-date s joined cancelled e f u h t g = rw (e, f, none u h, some t g)
+step1-date s joined cancelled e f u h t g = rw (e, f, none u h, some t g)
 
-pub first-good : (s : Session) (joined cancelled : List ℕ) {parts : List Part} {n d : ℕ} → s .progress .step ≡ 1 → objectOf (kindAt (s .setting .mode) 1) joined ≡ (0, parts)
-    → n ≡ unpackOf (fascnIn (s .setting .mode) joined) .0 → n ≡ 0 → d ≡ dateOf (fieldValue (kindAt (s .setting .mode) 1) 0x35 joined) .0 → d ≡ 0
-    → judgedSession s joined cancelled ≡ nextStep s joined cancelled
+pub step1-good : (s : Session) (joined cancelled : List ℕ) {parts : List Part} {n d : ℕ} → s .progress .step ≡ 1 → objectOf (kindAt (s .opening .mode) 1) joined ≡ (0, parts)
+    → n ≡ unpackOf (fascnRead (s .opening .mode) joined) .0 → n ≡ 0 → d ≡ dateOf (fieldValue (kindAt (s .opening .mode) 1) 0x35 joined) .0 → d ≡ 0
+    → judgedSession s joined cancelled ≡ goodEndSession s joined cancelled
 unfolding judgedSession joinedCause objectCause
-first-good s joined cancelled e f u h t g = rw (e, f, none u h, none t g)
+step1-good s joined cancelled e f u h t g = rw (e, f, none u h, none t g)

@@ -25,7 +25,7 @@ pub mod CallLaws
 pub mod SendLaws
 -- JudgeLaws: step 1's joined data, judged
 pub mod JudgeLaws
--- ReplyLaws: the number of a reply says its case
+-- ReplyLaws: the number of a reply yesNo its case
 pub mod ReplyLaws
 -- RefusedLaws: a refused call changes nothing
 pub mod RefusedLaws
@@ -55,8 +55,8 @@ pub mod CountLaws
 pub mod RunLaws
 -- PromiseLaws: demand 3
 pub mod PromiseLaws
--- KeptLaws: the promise as the contracts carry it
-pub mod KeptLaws
+-- CallPromiseLaws: the promise as the contracts carry it
+pub mod CallPromiseLaws
 -- SameFindingLaws: what cannot change a finding
 pub mod SameFindingLaws
 -- Twelve: document 01's worked examples

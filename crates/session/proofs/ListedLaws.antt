@@ -8,8 +8,8 @@ use native.Mathlib.Omega.{arith}
 use borrow.Author.Tests.{eqb-true, eq-eqb, not-true}
 use lib.Dec.{eqb}
 use lib.ListN.{length, getD}
-use Rattle.card.specs.Range.{all}
-use Rattle.card.proofs.RangeLaws.{all-at}
+use Rattle.card.specs.Lists.{all}
+use Rattle.card.proofs.ListsLaws.{all-at}
 use Rattle.session.specs.Tables.{listed}
 use Rattle.session.proofs.TestLaws.{clash}
 

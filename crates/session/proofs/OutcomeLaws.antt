@@ -9,9 +9,9 @@ use borrow.Author.Tests.{leb-true, eqb-true, eqb-false}
 use lib.Dec.{eqb, leb}
 use lib.ListN.{length, getD, set}
 use lib.Seq.{getD-set-same, getD-set-other}
-use Rattle.card.specs.Range.{sameBytes}
-use Rattle.card.proofs.RangeLaws.{all-at, all-of}
-use Rattle.session.specs.Tables.{checks, goodKind, checkOf, verdictOutcome, expiryOutcome, listed, listOutcome}
+use Rattle.card.specs.Lists.{sameBytes}
+use Rattle.card.proofs.ListsLaws.{all-at, all-of}
+use Rattle.session.specs.Tables.{checks, goodKind, checkServed, verdictOutcome, expiryOutcome, listed, listOutcome}
 use Rattle.session.specs.Ranges.{outcomesInRange}
 use Rattle.session.proofs.TestLaws.{clash, and-right, either}
 
@@ -28,7 +28,7 @@ each-kind P a b c d (suc (suc (suc (suc (suc n))))) e =
     absurd (let l = leb-true (suc (suc (suc (suc (suc n))))) 4 (and-right (leb 1 (suc (suc (suc (suc (suc n)))))) _ e) in omega arith)
 
 abbrev pub place-of : ℕ → ℕ
-place-of kind = checkOf kind - 1
+place-of kind = checkServed kind - 1
 
 -- the kind whose check has a place
 abbrev kind-of : ℕ → ℕ
@@ -36,13 +36,13 @@ kind-of place = cond (eqb place 0) 1 (cond (eqb place 1) 2 (cond (eqb place 4) 3
 
 pub record Placed (kind : ℕ) : Type 0 where
   pub low : place-of kind < checks
-  pub next : place-of kind + 1 ≡ checkOf kind
+  pub next : place-of kind + 1 ≡ checkServed kind
   pub not-expiry : _≡_ {A = ℕ} 2 (place-of kind) → ⊥
   pub not-list : _≡_ {A = ℕ} 3 (place-of kind) → ⊥
   pub back : kind-of (place-of kind) ≡ kind
 
 pub placed : (kind : ℕ) → goodKind kind ≡ true → Placed kind
-unfolding checkOf
+unfolding checkServed
 placed =
     each-kind Placed (record { low = omega arith; next = refl; not-expiry = λ e. omega arith; not-list = λ e. omega arith; back = refl })
     (record { low = omega arith; next = refl; not-expiry = λ e. omega arith; not-list = λ e. omega arith; back = refl })
@@ -58,9 +58,9 @@ places-apart k l p q e = sym (placed k p .back) ∙ ap kind-of e ∙ placed l q 
 abbrev Small : ℕ → Type 0
 Small v = leb v 4 ≡ true
 
-pub verdict-small : (own : List ℕ) (says : ℕ) (fascn : List ℕ) → leb (verdictOutcome own says fascn) 4 ≡ true
+pub verdict-small : (own : List ℕ) (yesNo : ℕ) (fascn : List ℕ) → leb (verdictOutcome own yesNo fascn) 4 ≡ true
 unfolding verdictOutcome
-verdict-small own says fascn = either Small (eqb says 0) {x = 3} refl (either Small (sameBytes fascn own) {x = 2} {y = 4} refl refl)
+verdict-small own yesNo fascn = either Small (eqb yesNo 0) {x = 3} refl (either Small (sameBytes fascn own) {x = 2} {y = 4} refl refl)
 
 -- outcomes stay in range where one that is in range is set
 pub set-in-range : (o : List ℕ) (p v : ℕ) → p < length o → leb v 4 ≡ true → outcomesInRange o ≡ true → outcomesInRange (set o p v) ≡ true

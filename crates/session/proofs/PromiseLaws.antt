@@ -8,13 +8,13 @@ use native.Mathlib.Omega.{arith}
 use lib.Dec.{eqb}
 use lib.ListN.{length, getD}
 use Rattle.session.specs.Condition.{commandConditions, answerConditions, verdictConditions, fieldConditions, stampConditions}
-use Rattle.session.specs.Reading.{Told, Reading, begins, nextCommand, commandRefused, answerRefused, verdictRefused, refusedBy, read, refusals}
+use Rattle.session.specs.Reading.{Arguments, Reading, begins, nextCommand, commandRefused, answerRefused, verdictRefused, refusedBy, read, refusals}
 use Rattle.session.specs.Ranges.{inRange}
 use Rattle.session.specs.Operation.{opened, commandOf, commandBuffer, fieldOf, stampBuffer}
-use Rattle.session.specs.Promise.{Call, Host, numberOf, numbers, History, start, finish, feed, readingOf, stampFor, countFor, Promise, Apart}
+use Rattle.session.specs.Promise.{Call, Host, callNumber, numbers, History, start, finish, argumentsIn, readingOf, stampFor, countFor, Promise, Apart}
 use Rattle.session.specs.declared.state.Session.{Session}
 use Rattle.session.proofs.ConditionLaws.{not-named}
-use Rattle.session.proofs.Invariant.{session-of, Invariant, Reaches}
+use Rattle.session.proofs.Invariant.{session-of, Invariant, HostStandsFor}
 use Rattle.session.proofs.InRangeLaws.{in-range}
 use Rattle.session.proofs.CommandLaws.{command-gives, command-leaves}
 use Rattle.session.proofs.FieldLaws.{field-is}
@@ -25,25 +25,25 @@ use Rattle.session.proofs.BeginLaws.{begins-holds}
 use Rattle.session.proofs.RunLaws.{number-is, stamp-number, on-list, numbers-are}
 
 -- the host of a history has come to its reading
-pub reached : (h : History) → Reaches (finish h) (readingOf h)
+pub reached : (h : History) → HostStandsFor (finish h) (readingOf h)
 unfolding opened
 reached h = on-list (h .calls) (begins (h .opening)) (h .object) (begins-holds (h .opening) (h .object) (h .good)) (h .lent)
 
-all-numbers : (h : History) → numbers (start h) (h .calls) ≡ refusals (begins (h .opening)) (feed h)
+all-numbers : (h : History) → numbers (start h) (h .calls) ≡ refusals (begins (h .opening)) (argumentsIn h)
 unfolding opened
 all-numbers h = numbers-are (h .calls) (begins (h .opening)) (h .object) (begins-holds (h .opening) (h .object) (h .good)) (h .lent)
 
 -- ---- number 4 is none of the reading's
 
-not-four : (r : Reading) (t : Told) → refusedBy r t ≡ 4 → ⊥
+not-four : (r : Reading) (t : Arguments) → refusedBy r t ≡ 4 → ⊥
 unfolding commandRefused answerRefused verdictRefused
-not-four r (Told.command room) = not-named 4 (commandConditions (r .course .step) (r .course .cause) (r .course .outstanding) room (length (nextCommand r))) refl
-not-four r (Told.answer size bytes cancelled) = not-named 4 (answerConditions (r .course .outstanding) size (length bytes)) refl
-not-four r (Told.verdict kind says fascn) = not-named 4 (verdictConditions (r .opening .mode) (r .course .step) (r .outcomes) kind says fascn) refl
-not-four r (Told.field size tag) = not-named 4 (fieldConditions size) refl
-not-four r (Told.stamp room) = not-named 4 (stampConditions room) refl
+not-four r (Arguments.command room) = not-named 4 (commandConditions (r .progress .step) (r .progress .cause) (r .progress .outstanding) room (length (nextCommand r))) refl
+not-four r (Arguments.answer size bytes cancelled) = not-named 4 (answerConditions (r .progress .outstanding) size (length bytes)) refl
+not-four r (Arguments.verdict kind yesNo fascn) = not-named 4 (verdictConditions (r .opening .mode) (r .progress .step) (r .outcomes) kind yesNo fascn) refl
+not-four r (Arguments.field size tag) = not-named 4 (fieldConditions size) refl
+not-four r (Arguments.stamp room) = not-named 4 (stampConditions room) refl
 
-never-four : (ts : List Told) (r : Reading) (i : ℕ) → getD (refusals r ts) i 0 ≡ 4 → ⊥
+never-four : (ts : List Arguments) (r : Reading) (i : ℕ) → getD (refusals r ts) i 0 ≡ 4 → ⊥
 never-four [] r i e = let z : _≡_ {A = ℕ} 0 4 = e in omega arith
 never-four (t ∷ ts) r zero e = not-four r t e
 never-four (t ∷ ts) r (suc i) e = never-four ts (read r t) i e
@@ -71,18 +71,18 @@ promise h =
     let i = a .holds in
     let s : finish h .session ≡ session-of r = ap (λ (x : Host). x .session) (a .same) in
     record {
-      stamp-number = λ out. ap (λ (x : Host). numberOf x (Call.stamp out)) (a .same) ∙ number-is r m (Call.stamp out) i;
+      stamp-number = λ out. ap (λ (x : Host). callNumber x (Call.stamp out)) (a .same) ∙ number-is r m (Call.stamp out) i;
       stamp-bytes = λ out. ap (λ (x : Session). stampBuffer x out) s ∙ stamp-leaves r m out i;
-      command-number = λ out. ap (λ (x : Host). numberOf x (Call.command out)) (a .same) ∙ number-is r m (Call.command out) i;
+      command-number = λ out. ap (λ (x : Host). callNumber x (Call.command out)) (a .same) ∙ number-is r m (Call.command out) i;
       command-count = λ out. ap (λ (x : Session). commandOf x (length out) .1) s ∙ command-count r m (length out) i;
       command-bytes = λ out. ap (λ (x : Session). commandBuffer x out) s ∙ command-leaves r m out i;
       field-value = λ tag. ap (λ (x : Host). fieldOf (x .session) (x .object) tag) (a .same) ∙ field-is r m tag i;
       refused = all-numbers h;
-      never-four = λ n e. never-four (feed h) (begins (h .opening)) n (ap (λ (l : List ℕ). getD l n 0) (sym (all-numbers h)) ∙ e);
+      never-four = λ n e. never-four (argumentsIn h) (begins (h .opening)) n (ap (λ (l : List ℕ). getD l n 0) (sym (all-numbers h)) ∙ e);
       in-range = ap inRange s ∙ in-range r m i;
       granted = granted-iff r m i;
-      answers-step = λ step. answers-step step (h .opening) (feed h);
-      answers-all = answers-all (h .opening) (feed h);
+      answers-step = λ step. answers-step step (h .opening) (argumentsIn h);
+      answers-all = answers-all (h .opening) (argumentsIn h);
     }
 
 pub apart : (h u : History) → Apart h u

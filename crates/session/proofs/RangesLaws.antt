@@ -13,9 +13,9 @@ use Rattle.card.specs.Object.{empty, mostFields, rowsOf, partIn}
 use Rattle.card.specs.declared.object.Kind.{Kind}
 use Rattle.card.specs.declared.object.Kind.the-variants.{Signed, Unsigned, Fingers}
 use Rattle.card.specs.declared.object.Part.{Part}
-use Rattle.card.proofs.RangeLaws.{all-at}
+use Rattle.card.proofs.ListsLaws.{all-at}
 use Rattle.session.specs.Tables.{goodMode, baseOf, kindAt, objectSize}
-use Rattle.session.specs.Ranges.{settingInRange, stepInRange, causeInRange, outstandingInRange, progressInRange, outcomesInRange, partInside, partsInside, cardInRange, inRange, outOfRange, valuesOf, valuesInRange}
+use Rattle.session.specs.Ranges.{openingInRange, stepInRange, causeInRange, outstandingInRange, progressInRange, outcomesInRange, partInside, partsInside, cardInRange, inRange, outOfRange, valuesOf, valuesInRange}
 use Rattle.session.specs.Operation.{partFor}
 use Rattle.session.specs.declared.state.Session.{Session}
 use Rattle.session.specs.declared.range.Values.{Values}
@@ -25,31 +25,31 @@ use Rattle.session.proofs.TestLaws.{and-parts}
 
 -- setting, progress, outcomes and card
 pub groups-in-range : (s : Session) → inRange s ≡ true
-    → ((settingInRange (s .setting) ≡ true) × (progressInRange (s .setting .mode) (s .progress) ≡ true)) × ((outcomesInRange (s .outcomes) ≡ true) × (cardInRange (s .card) ≡ true))
+    → ((openingInRange (s .opening) ≡ true) × (progressInRange (s .opening .mode) (s .progress) ≡ true)) × ((outcomesInRange (s .outcomes) ≡ true) × (cardInRange (s .card) ≡ true))
 unfolding inRange
 groups-in-range s e = let h = and-parts _ _ e in (and-parts _ _ (h .0), and-parts _ _ (h .1))
 
 -- ---- single values
 
-pub aid-in-range : (s : Session) → inRange s ≡ true → (5 ≤ s .setting .«aid_len») × (s .setting .«aid_len» ≤ 16)
+pub aid-in-range : (s : Session) → inRange s ≡ true → (5 ≤ s .opening .«aid_len») × (s .opening .«aid_len» ≤ 16)
 aid-in-range s e =
-    let n = s .setting .«aid_len» in
-    let fits : leb 5 n && leb n 16 ≡ true = and-parts (goodMode (s .setting .mode) && realDate (s .setting .date)) _ (groups-in-range s e .0 .0) .1 in
+    let n = s .opening .«aid_len» in
+    let fits : leb 5 n && leb n 16 ≡ true = and-parts (goodMode (s .opening .mode) && realDate (s .opening .date)) _ (groups-in-range s e .0 .0) .1 in
     let h = and-parts (leb 5 n) (leb n 16) fits in
     (leb-true 5 n (h .0), leb-true n 16 (h .1))
 
 pub filled-in-range : (s : Session) → inRange s ≡ true → s .progress .filled ≤ 4096
 filled-in-range s e =
     let p = s .progress in
-    let step = stepInRange (s .setting .mode) (p .step) in
+    let step = stepInRange (s .opening .mode) (p .step) in
     let full : step && leb (p .filled) 4096 ≡ true = and-parts (step && leb (p .filled) 4096) (causeInRange (p .cause) && outstandingInRange (p .outstanding) (p .step) (p .cause)) (groups-in-range s e .0 .1) .0 in
     leb-true (p .filled) 4096 (and-parts step (leb (p .filled) 4096) full .1)
 
 -- the parts of step 1 and those of step 2
-pub parts-in-range : (s : Session) → inRange s ≡ true → (partsInside (baseOf 1) (s .card .first) ≡ true) × (partsInside (baseOf 2) (s .card .second) ≡ true)
+pub parts-in-range : (s : Session) → inRange s ≡ true → (partsInside (baseOf 1) (s .card .step1) ≡ true) × (partsInside (baseOf 2) (s .card .step2) ≡ true)
 parts-in-range s e =
     let c = s .card in
-    and-parts (partsInside (baseOf 1) (c .first)) (partsInside (baseOf 2) (c .second)) (and-parts (eqb (c .expiry) 0 || realDate (c .expiry)) _ (groups-in-range s e .1 .1) .1)
+    and-parts (partsInside (baseOf 1) (c .step1)) (partsInside (baseOf 2) (c .step2)) (and-parts (eqb (c .expiry) 0 || realDate (c .expiry)) _ (groups-in-range s e .1 .1) .1)
 
 -- ---- parts
 
@@ -87,15 +87,15 @@ parts-end base k ps tag h e =
 -- the field with a tag of a step's object lies inside the object buffer
 pub part-in-range : (s : Session) (step tag : ℕ) → inRange s ≡ true
     → baseOf step + (partFor s step tag .start + partFor s step tag .len) ≤ objectSize
-part-in-range s step tag e = by-step (eqb step 2) (kindAt (s .setting .mode) step)
+part-in-range s step tag e = by-step (eqb step 2) (kindAt (s .opening .mode) step)
   where
-    by-step : (b : Bool) (k : Kind) → let p = partIn (rowsOf k) (cond b (s .card .second) (s .card .first)) tag in cond b 4096 0 + (p .start + p .len) ≤ objectSize
-    by-step true k = parts-end 4096 k (s .card .second) tag (omega arith) (parts-in-range s e .1)
-    by-step false k = parts-end 0 k (s .card .first) tag (omega arith) (parts-in-range s e .0)
+    by-step : (b : Bool) (k : Kind) → let p = partIn (rowsOf k) (cond b (s .card .step2) (s .card .step1)) tag in cond b 4096 0 + (p .start + p .len) ≤ objectSize
+    by-step true k = parts-end 4096 k (s .card .step2) tag (omega arith) (parts-in-range s e .1)
+    by-step false k = parts-end 0 k (s .card .step1) tag (omega arith) (parts-in-range s e .0)
 
 -- ---- the values by themselves
 
--- what their test says is said of the session that they are of
-pub told : (s : Session) {v : Values} {r : Bool} → v ≡ valuesOf s → r ≡ not (valuesInRange v) → r ≡ outOfRange s
+-- what their test yesNo is said of the session that they are of
+pub values-say : (s : Session) {v : Values} {r : Bool} → v ≡ valuesOf s → r ≡ not (valuesInRange v) → r ≡ outOfRange s
 unfolding inRange valuesOf valuesInRange
-told s e f = f ∙ ap (λ (x : Values). not (valuesInRange x)) e
+values-say s e f = f ∙ ap (λ (x : Values). not (valuesInRange x)) e

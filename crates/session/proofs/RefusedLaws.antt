@@ -25,9 +25,9 @@ pub answer-unchanged : (s : Session) (object bytes cancelled : List ℕ) → let
 unfolding answerOf answerBuffer
 answer-unchanged s object bytes cancelled h = let e = ne-eqb (answerRefusal s (length object) (length bytes)) 0 h in (rw e, rw e)
 
-pub verdict-unchanged : (s : Session) (kind says : ℕ) (fascn : List ℕ) → let k = verdictRefusal s kind says fascn in (k ≡ 0 → ⊥) → verdictOf s kind says fascn ≡ (k, s)
+pub verdict-unchanged : (s : Session) (kind yesNo : ℕ) (fascn : List ℕ) → let k = verdictRefusal s kind yesNo fascn in (k ≡ 0 → ⊥) → verdictOf s kind yesNo fascn ≡ (k, s)
 unfolding verdictOf
-verdict-unchanged s kind says fascn h = rw (ne-eqb (verdictRefusal s kind says fascn) 0 h)
+verdict-unchanged s kind yesNo fascn h = rw (ne-eqb (verdictRefusal s kind yesNo fascn) 0 h)
 
 pub stamp-unchanged : (s : Session) (out : List ℕ) → let k = stampRefusal s (length out) in
     (k ≡ 0 → ⊥) → (stampAnswer s (length out) ≡ (k, s)) × (stampBuffer s out ≡ out)
@@ -45,9 +45,9 @@ pub answer-dead : (size n : ℕ) → answerRefusal dead size n ≡ 4
 unfolding answerRefusal inRange
 answer-dead size n = refl
 
-pub verdict-dead : (kind says : ℕ) (fascn : List ℕ) → verdictRefusal dead kind says fascn ≡ 4
+pub verdict-dead : (kind yesNo : ℕ) (fascn : List ℕ) → verdictRefusal dead kind yesNo fascn ≡ 4
 unfolding verdictRefusal inRange
-verdict-dead kind says fascn = refl
+verdict-dead kind yesNo fascn = refl
 
 pub stamp-dead : (room : ℕ) → stampRefusal dead room ≡ 4
 unfolding stampRefusal inRange

@@ -12,7 +12,7 @@ use Rattle.card.specs.Template.{templateOf, goodFrom}
 use Rattle.card.specs.Object.{objectOf, fieldValue}
 use Rattle.card.specs.Date.{dateOf}
 use Rattle.card.specs.declared.command.Status.{Status}
-use Rattle.session.specs.Tables.{kindAt, fascnIn, isOther, isMore, ruleCause, objectCause, joinedCause}
+use Rattle.session.specs.Tables.{kindAt, fascnRead, isOther, isMore, ruleCause, objectCause, joinedCause}
 use Rattle.session.specs.Ranges.{causeInRange}
 use Rattle.session.proofs.TestLaws.{either}
 use Rattle.session.proofs.ConditionLaws.{none-fit}
@@ -40,5 +40,5 @@ unfolding joinedCause templateOf objectCause
 joined-in-range mode step joined =
     either InRange (eqb step 0) (either InRange (goodFrom (onlyOf 0x61 joined) joined) {x = 0} {y = 19} refl refl)
     (either InRange (not (eqb (objectOf (kindAt mode step) joined .0) 0)) {x = 20} refl
-    (either InRange (eqb step 1 && not (eqb (unpackOf (fascnIn mode joined) .0) 0)) {x = 21} refl
+    (either InRange (eqb step 1 && not (eqb (unpackOf (fascnRead mode joined) .0) 0)) {x = 21} refl
     (either InRange (eqb step 1 && not (eqb (dateOf (fieldValue (kindAt mode 1) 0x35 joined) .0) 0)) {x = 22} {y = 0} refl refl)))

@@ -16,21 +16,21 @@ use Rattle.card.specs.Date.{daysIn, realDate}
 use Rattle.card.specs.Command.{aidRefused}
 use Rattle.card.proofs.FascnLaws.{well-formed, unpack-pack}
 use Rattle.card.proofs.DateLaws.{date-real}
-use Rattle.session.specs.Tables.{goodMode, fascnIn, stampSize, fourBytes, layout}
+use Rattle.session.specs.Tables.{goodMode, fascnRead, stampSize, fourBytes, layout}
 use Rattle.session.specs.Reading.{StepOne, Found, Reading, ownFascn}
 use Rattle.session.specs.Finding.{Finding, digitsFound, expiryFound, finding, standing, fascnStamped, expiryStamped, stampOf}
 use Rattle.session.specs.Operation.{stampHead, stampIn}
 use Rattle.session.proofs.BytesLaws.{field-bytes}
 use Rattle.session.proofs.TestLaws.{clash, and-left, and-right}
-use Rattle.session.proofs.Invariant.{session-of, expiry-of, OneKept, Stage, Invariant}
+use Rattle.session.proofs.Invariant.{session-of, expiry-of, OneHeld, Stage, Invariant}
 
 -- ---- what is shown of the card
 
 -- the digits found pack to the FASC-N that was read
-fascn-shown : (mode : ℕ) (f : Option StepOne) (m : List ℕ) → OneKept mode f m → fascnStamped (digitsFound mode f) ≡ ownFascn mode f
+fascn-shown : (mode : ℕ) (f : Option StepOne) (m : List ℕ) → OneHeld mode f m → fascnStamped (digitsFound mode f) ≡ ownFascn mode f
 fascn-shown mode Option.none m k = refl
 fascn-shown mode (Option.some f) m k =
-    ap (λ (p : ℕ × List ℕ). p .1) (unpack-pack (fascnIn mode (f .joined)) (λ i h. field-bytes _ 0x30 (f .joined) (k .0 .bytes) i) (k .0 .fascn))
+    ap (λ (p : ℕ × List ℕ). p .1) (unpack-pack (fascnRead mode (f .joined)) (λ i h. field-bytes _ 0x30 (f .joined) (k .0 .bytes) i) (k .0 .fascn))
 
 expiry-shown : (mode : ℕ) (f : Option StepOne) → expiryStamped (expiryFound mode f) ≡ expiry-of mode f
 expiry-shown mode Option.none = refl
@@ -40,7 +40,7 @@ expiry-shown mode (Option.some f) = refl
 pub stamp-is : (r : Reading) (m : List ℕ) → Invariant r m → stampIn (session-of r) ≡ stampOf (finding r)
 unfolding stampIn stampHead stampOf finding
 stamp-is r m i =
-    rw (i .course-good .shown1, i .course-good .shown2, fascn-shown (r .opening .mode) (r .found .first) m (i .one), expiry-shown (r .opening .mode) (r .found .first)) refl
+    rw (i .progress-good .shown1, i .progress-good .shown2, fascn-shown (r .opening .mode) (r .found .step1) m (i .one), expiry-shown (r .opening .mode) (r .found .step1)) refl
 
 -- its second byte is the standing
 pub stamp-second : (f : Finding) → getD (stampOf f) 1 0 ≡ standing f
@@ -68,18 +68,18 @@ has Option.none = false
 has (Option.some f) = true
 
 -- the FASC-N that is stamped has 25 bytes, and both dates fit four
-fascn-long : (mode : ℕ) (f : Option StepOne) (m : List ℕ) → OneKept mode f m → length (ownFascn mode f) ≡ 25
+fascn-long : (mode : ℕ) (f : Option StepOne) (m : List ℕ) → OneHeld mode f m → length (ownFascn mode f) ≡ 25
 fascn-long mode Option.none m k = refl
-fascn-long mode (Option.some f) m k = well-formed (fascnIn mode (f .joined)) (k .0 .fascn) .long
+fascn-long mode (Option.some f) m k = well-formed (fascnRead mode (f .joined)) (k .0 .fascn) .long
 
-expiry-small : (mode : ℕ) (f : Option StepOne) (m : List ℕ) → OneKept mode f m → expiry-of mode f < 2 ^ 32
+expiry-small : (mode : ℕ) (f : Option StepOne) (m : List ℕ) → OneHeld mode f m → expiry-of mode f < 2 ^ 32
 expiry-small mode Option.none m k = omega arith
 expiry-small mode (Option.some f) m k = real-small _ (date-real _ (k .0 .date))
 
 -- the card is read from step 2 on
-read-by : (step : ℕ) (f : Found) → Stage step f → has (f .first) ≡ leb 2 step
-read-by step f (Stage.early l e) = ap (λ (x : Found). has (x .first)) e ∙ sym (lt-leb 2 step l)
-read-by step f (Stage.between l x e) = ap (λ (y : Found). has (y .first)) e ∙ sym (le-leb 2 step (omega arith))
+read-by : (step : ℕ) (f : Found) → Stage step f → has (f .step1) ≡ leb 2 step
+read-by step f (Stage.early l e) = ap (λ (x : Found). has (x .step1)) e ∙ sym (lt-leb 2 step l)
+read-by step f (Stage.between l x e) = ap (λ (y : Found). has (y .step1)) e ∙ sym (le-leb 2 step (omega arith))
 read-by step f (Stage.late l x e) = ap has e ∙ sym (le-leb 2 step (omega arith))
 
 date-small : (r : Reading) (m : List ℕ) → Invariant r m → r .opening .date < 2 ^ 32
@@ -93,7 +93,7 @@ layout-length a o f d x = simp length-append
 pub stamp-length : (r : Reading) (m : List ℕ) → Invariant r m → length (stampOf (finding r)) ≡ stampSize
 unfolding stampIn stampHead
 stamp-length r m i =
-    rw (← stamp-is r m i, layout-length, i .judged .six, fascn-long (r .opening .mode) (r .found .first) m (i .one)) refl
+    rw (← stamp-is r m i, layout-length, i .judged .six, fascn-long (r .opening .mode) (r .found .step1) m (i .one)) refl
 
 -- ---- equal stamps
 
@@ -157,16 +157,16 @@ card-same mode mode′ (Option.some x) (Option.some y) e p q = (ap (λ (s : List
 same-finding : (r s : Reading) (m n : List ℕ) → Invariant r m → Invariant s n → stampOf (finding r) ≡ stampOf (finding s) → finding r ≡ finding s
 unfolding stampIn stampHead finding
 same-finding r s m n i j e =
-    let f = r .found .first in
-    let g = s .found .first in
+    let f = r .found .step1 in
+    let g = s .found .step1 in
     let p = layout-same _ (r .outcomes) _ _ (s .outcomes) _ (r .opening .date) _ (s .opening .date) _ refl (i .judged .six ∙ sym (j .judged .six))
     (fascn-long _ f m (i .one) ∙ sym (fascn-long _ g n (j .one))) (stamp-is r m i ∙ e ∙ sym (stamp-is s n j)) in
     let head = p .0 in
-    let step : r .course .step ≡ s .course .step = at 5 head in
+    let step : r .progress .step ≡ s .progress .step = at 5 head in
     let c = card-same _ _ f g (read-by _ _ (i .stage) ∙ ap (leb 2) step ∙ sym (read-by _ _ (j .stage))) (p .3) (four-same _ _ (expiry-small _ f m (i .one)) (expiry-small _ g n (j .one)) (p .4)) in
     let date = four-same _ _ (date-small r m i) (date-small s n j) (p .2) in
-    let sw1 : r .course .sw1 ≡ s .course .sw1 = sym (i .course-good .shown1) ∙ at 3 head ∙ j .course-good .shown1 in
-    let sw2 : r .course .sw2 ≡ s .course .sw2 = sym (i .course-good .shown2) ∙ at 4 head ∙ j .course-good .shown2 in
+    let sw1 : r .progress .sw1 ≡ s .progress .sw1 = sym (i .progress-good .shown1) ∙ at 3 head ∙ j .progress-good .shown1 in
+    let sw2 : r .progress .sw2 ≡ s .progress .sw2 = sym (i .progress-good .shown2) ∙ at 4 head ∙ j .progress-good .shown2 in
     λ t. record { mode = at 0 head t; date = date t; step = step t; cause = at 2 head t; sw1 = sw1 t; sw2 = sw2 t; outcomes = p .1 t; digits = c .0 t; expiry = c .1 t }
 
 -- two stamps are equal exactly where the findings are

@@ -7,25 +7,25 @@ use native.Mathlib.Nat.{le-of-eq}
 use native.Mathlib.Omega.{arith}
 use lib.ListN.{length, length-append, take, drop, length-drop, drop-of-length-le}
 use lib.Seq.{take-all, drop-drop}
-use Rattle.card.specs.Range.{front, stored}
-use Rattle.card.proofs.RangeLaws.{stored-first, stored-next}
+use Rattle.card.specs.Lists.{overFront, overPlaces}
+use Rattle.card.proofs.ListsLaws.{stored-first, stored-next}
 
 -- a part that runs to the end comes back with s over its front: s is stored from the part's first place on
-pub part-stored : (d s : List ℕ) (at : ℕ) {l : List ℕ} → l ≡ front s (take (length d - at) (drop at d))
-    → take at d ++ (l ++ drop (length d - at) (drop at d)) ≡ stored d at s
-unfolding front stored
+pub part-stored : (d s : List ℕ) (at : ℕ) {l : List ℕ} → l ≡ overFront s (take (length d - at) (drop at d))
+    → take at d ++ (l ++ drop (length d - at) (drop at d)) ≡ overPlaces d at s
+unfolding overFront overPlaces
 part-stored d s at e =
     let whole : take (length d - at) (drop at d) ≡ drop at d = take-all (length d - at) (drop at d) (le-of-eq (length-drop at d)) in
     rw (drop-of-length-le (drop at d) (le-of-eq (length-drop at d)), append-nil, e, whole, drop-drop) (sym (append-assoc (take at d) s (drop (at + length s) d)))
 
 -- a list over the front of one that is no longer is that list
-pub front-all : (s l : List ℕ) → length l ≤ length s → front s l ≡ s
-unfolding front
+pub front-all : (s l : List ℕ) → length l ≤ length s → overFront s l ≡ s
+unfolding overFront
 front-all s l h = rw (drop-of-length-le l h, append-nil)
 
 -- five lists stored one after another stand in front: those of a stamp
 pub stored-five : (a b c e f d : List ℕ) {l1 l2 l3 l4 l5 : List ℕ} → length a ≡ 6 → length b ≡ 6 → length c ≡ 4 → length e ≡ 25
-    → l1 ≡ stored d 0 a → l2 ≡ stored l1 6 b → l3 ≡ stored l2 12 c → l4 ≡ stored l3 16 e → l5 ≡ stored l4 41 f → l5 ≡ front ((((a ++ b) ++ c) ++ e) ++ f) d
+    → l1 ≡ overPlaces d 0 a → l2 ≡ overPlaces l1 6 b → l3 ≡ overPlaces l2 12 c → l4 ≡ overPlaces l3 16 e → l5 ≡ overPlaces l4 41 f → l5 ≡ overFront ((((a ++ b) ++ c) ++ e) ++ f) d
 stored-five a b c e f d ha hb hc he p1 p2 p3 p4 p5 =
     let q1 = p1 ∙ stored-first d a in
     let q2 = p2 ∙ stored-next a b d q1 (sym ha) in

@@ -5,16 +5,16 @@ use mathlib.Core.Bool.{cond}
 use mathlib.Core.List.{List, [], _∷_, _++_, map}
 use Prim.Native.Nat.{ℕ}
 use lib.ListN.{replicate}
-use Rattle.card.specs.Range.{listOf, run, all, number, xorOf, sameBytes}
-use Rattle.card.specs.Date.{daysIn, realDate, digitAt, spelled, goodDate, dateOf}
+use Rattle.card.specs.Lists.{listOf, sliceOf, all, number, xorOf, sameBytes}
+use Rattle.card.specs.Date.{daysIn, realDate, isDigitAt, spelled, goodDate, dateOf}
 use Rattle.card.specs.Template.{tlvsFrom, tlvsOf, every, wholeTo, lengthsOf, justOne, goodValue, goodFrom, templateOf}
 use Rattle.card.specs.Command.{getResponseBytes, selectBytes, getDataBytes, statusOf}
-use Rattle.card.specs.Object.{rowsOf, fieldFrom, fieldOf, fieldsFrom, fieldsAnswer, objectFrom, objectOf, partIn, bytesAt, fieldValue, objectTag}
+use Rattle.card.specs.Object.{rowsOf, fieldFrom, rowField, fieldsFrom, fieldsAnswer, objectFrom, objectOf, partIn, bytesAt, fieldValue, objectTag}
 use Rattle.card.specs.Tlv.{tagSize, tagNumber, lengthSize, lengthOf, endingOf, afterTag, headerOf, onlyFrom, onlyOf}
 use Rattle.card.specs.declared.object.Kind.the-variants.{Unsigned}
-use Rattle.card.specs.Fascn.{bitAt, valueAt, oddAt, valuesIn, digitsFrom, marksFrom, decimalAt, checkOf, unpackRefusal, unpackOf, charBit, sentBit, bytesOf, valuesFrom, valuesOf, packRefusal, packOf, keyOf}
+use Rattle.card.specs.Fascn.{bitAt, valueAt, oddAt, valuesIn, digitsFrom, marksFrom, decimalAt, checkValue, unpackRefusal, unpackOf, charBit, sentBit, bytesOf, valuesFrom, valuesOf, packRefusal, packOf, keyOf}
 use Rattle.session.specs.Tables as tables
-use Rattle.session.specs.Reading.{Opening, Told, Reading, begins, nextCommand, commandRefused, answerRefused, goodEnd, judged, answered, verdictRefused, read, reading}
+use Rattle.session.specs.Reading.{Opening, Arguments, Reading, begins, nextCommand, commandRefused, answerRefused, goodEnd, judged, answerTaken, verdictRefused, read, reading}
 use Rattle.session.specs.Finding.{finding, stampOf}
 
 -- The sample FASC-N without its last byte, and its digits.
@@ -51,8 +51,8 @@ object s = (objectOf Unsigned s .0 ∷ []) ++ place s 0x30 ++ place s 0x34 ++ pl
 opening : ℕ → Opening
 opening date = record { mode = 2; date = date; aid = 0xA0 ∷ 0x00 ∷ 0x00 ∷ 0x03 ∷ 0x67 ∷ 0x20 ∷ 0x00 ∷ 0x00 ∷ 0x01 ∷ 0x01 ∷ 0x03 ∷ [] }
 
-answered-by : List ℕ → List Told → List Told
-answered-by bytes ts = Told.command 261 ∷ Told.answer 8192 bytes [] ∷ ts
+answered-by : List ℕ → List Arguments → List Arguments
+answered-by bytes ts = Arguments.command 261 ∷ Arguments.answer 8192 bytes [] ∷ ts
 
 example : ℕ → Reading
 unfolding answered-by opening sample fields
@@ -60,15 +60,15 @@ example date =
     reading (begins (opening date))
     (answered-by (0x61 ∷ 0x08 ∷ 0x4F ∷ 0x06 ∷ 0x20 ∷ 0x00 ∷ 0x00 ∷ 0x01 ∷ 0x01 ∷ 0x03 ∷ 0x90 ∷ 0x00 ∷ [])
     (answered-by ((0x53 ∷ 0x27 ∷ []) ++ fields ++ (0x90 ∷ 0x00 ∷ []))
-    (Told.verdict 3 1 (sample ++ (0xe2 ∷ [])) ∷ [])))
+    (Arguments.verdict 3 1 (sample ++ (0xe2 ∷ [])) ∷ [])))
 
--- What the definitions give, beside what the paper says: a, its check value, b, c; d, e, f, g; h, with 53 27 and with 53 81 27, where all starts are one more; i; j and k,
+-- What the definitions give, beside what the paper yesNo: a, its check value, b, c; d, e, f, g; h, with 53 27 and with 53 81 27, where all starts are one more; i; j and k,
 -- the outcome of check 3 where the example is opened on its expiry, 20110410, and a day later; l; and the example's stamp.
 pub table : List (List ℕ × List ℕ)
 unfolding sample digits fields opening answered-by
 table =
     (answer (sample ++ (0xe2 ∷ [])), 0 ∷ digits)
-    ∷ (checkOf (valuesIn (sample ++ (0xe2 ∷ []))) ∷ [], 8 ∷ [])
+    ∷ (checkValue (valuesIn (sample ++ (0xe2 ∷ []))) ∷ [], 8 ∷ [])
     ∷ (answer (sample ++ (0xe3 ∷ [])), 16 ∷ replicate 32 0)
     ∷ (answer sample, 15 ∷ replicate 32 0)
     ∷ (real 20240229, 1 ∷ [])
@@ -85,5 +85,5 @@ table =
     ∷ []
 
 pub twelve : map (λ row. row .0) table ≡ map (λ row. row .1) table
-unfolding example opening answered-by tables.needs tables.checkOf tables.neededAt tables.neededOutcomes tables.verdictOutcome tables.expiryOutcome tables.listed tables.listOutcome tables.lowestFrom tables.causeOf tables.allPassed tables.standingOf tables.commandBytes tables.ruleCause tables.objectCause tables.joinedCause tables.layout commandRefused answerRefused goodEnd judged answered verdictRefused read finding stampOf number sameBytes digitAt spelled goodDate dateOf tlvsFrom tlvsOf every wholeTo lengthsOf justOne goodValue goodFrom templateOf getResponseBytes selectBytes getDataBytes statusOf bytesAt fieldValue objectTag charBit sentBit bytesOf valuesFrom valuesOf packRefusal packOf keyOf table answer real object place partIn realDate daysIn objectOf objectFrom fieldsAnswer fieldsFrom fieldOf fieldFrom rowsOf onlyOf onlyFrom headerOf afterTag endingOf tagSize tagNumber lengthSize lengthOf unpackOf unpackRefusal bitAt valueAt oddAt valuesIn digitsFrom marksFrom decimalAt checkOf all listOf run xorOf
+unfolding example opening answered-by tables.needs tables.checkServed tables.neededAt tables.neededOutcomes tables.verdictOutcome tables.expiryOutcome tables.listed tables.listOutcome tables.lowestFrom tables.causeOf tables.allPassed tables.standingOf tables.commandBytes tables.ruleCause tables.objectCause tables.joinedCause tables.layout commandRefused answerRefused goodEnd judged answerTaken verdictRefused read finding stampOf number sameBytes isDigitAt spelled goodDate dateOf tlvsFrom tlvsOf every wholeTo lengthsOf justOne goodValue goodFrom templateOf getResponseBytes selectBytes getDataBytes statusOf bytesAt fieldValue objectTag charBit sentBit bytesOf valuesFrom valuesOf packRefusal packOf keyOf table answer real object place partIn realDate daysIn objectOf objectFrom fieldsAnswer fieldsFrom rowField fieldFrom rowsOf onlyOf onlyFrom headerOf afterTag endingOf tagSize tagNumber lengthSize lengthOf unpackOf unpackRefusal bitAt valueAt oddAt valuesIn digitsFrom marksFrom decimalAt checkValue all listOf sliceOf xorOf
 twelve = refl

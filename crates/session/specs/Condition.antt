@@ -9,7 +9,7 @@ use lib.ListN.{length}
 use Rattle.card.specs.Fascn.{unpackOf}
 use Rattle.card.specs.Date.{realDate}
 use Rattle.card.specs.Command.{aidRefused}
-use Rattle.session.specs.Tables.{goodMode, goodKind, needs, checkOf, outcomeOf, awaited, ends, objectSize, stampSize}
+use Rattle.session.specs.Tables.{goodMode, goodKind, needs, checkServed, outcomeOf, awaited, ends, objectSize, stampSize}
 
 -- Open: 1 mode not 1–4; 2 date not real; 3 AID not 5–16 bytes.
 abbrev pub openConditions : ℕ → ℕ → List ℕ → List (ℕ × Bool)
@@ -32,13 +32,13 @@ answerConditions outstanding size n =
 -- Verdict: 9 step not 3; 10 kind not 1–4; 11 verdict not 0 (no) or 1 (yes); 12 not 25 bytes or ill-formed FASC-N; 13 mode doesn't need it; 14 that kind already given
 -- (its outcome isn't 1).
 abbrev pub verdictConditions : ℕ → ℕ → List ℕ → ℕ → ℕ → List ℕ → List (ℕ × Bool)
-verdictConditions mode step outcomes kind says fascn =
+verdictConditions mode step outcomes kind yesNo fascn =
     (9, not (eqb step 3))
     ∷ (10, not (goodKind kind))
-    ∷ (11, not (leb says 1))
+    ∷ (11, not (leb yesNo 1))
     ∷ (12, not (eqb (unpackOf fascn .0) 0))
-    ∷ (13, not (needs mode (checkOf kind)))
-    ∷ (14, not (eqb (outcomeOf outcomes (checkOf kind)) awaited))
+    ∷ (13, not (needs mode (checkServed kind)))
+    ∷ (14, not (eqb (outcomeOf outcomes (checkServed kind)) awaited))
     ∷ []
 
 -- Field: 7 object buffer not 8,192 bytes.

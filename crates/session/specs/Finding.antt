@@ -9,7 +9,7 @@ use Prim.Native.Nat.{ℕ, _≤_}
 use lib.Dec.{eqb}
 use lib.ListN.{replicate}
 use Rattle.card.specs.Fascn.{packOf}
-use Rattle.session.specs.Tables.{needs, goodKind, checkOf, causeOf, standingOf, listed, fascnIn, digitsIn, keyIn, expiryIn, headOf, layout}
+use Rattle.session.specs.Tables.{needs, goodKind, checkServed, causeOf, standingOf, listed, fascnRead, digitsRead, keyRead, expiryRead, headOf, layout}
 use Rattle.session.specs.Reading.{StepOne, Verdict, Reading}
 
 pub record Finding : Type 0 where
@@ -26,24 +26,24 @@ pub record Finding : Type 0 where
 
 abbrev pub digitsFound : ℕ → Option StepOne → Option (List ℕ)
 digitsFound mode Option.none = Option.none
-digitsFound mode (Option.some f) = Option.some (digitsIn mode (f .joined))
+digitsFound mode (Option.some f) = Option.some (digitsRead mode (f .joined))
 
 abbrev pub expiryFound : ℕ → Option StepOne → Option ℕ
 expiryFound mode Option.none = Option.none
-expiryFound mode (Option.some f) = Option.some (expiryIn mode (f .joined))
+expiryFound mode (Option.some f) = Option.some (expiryRead mode (f .joined))
 
 unfoldable pub finding : Reading → Finding
 finding r =
     record {
       mode = r .opening .mode;
       date = r .opening .date;
-      step = r .course .step;
-      cause = causeOf (r .course .cause) (r .outcomes);
-      sw1 = r .course .sw1;
-      sw2 = r .course .sw2;
+      step = r .progress .step;
+      cause = causeOf (r .progress .cause) (r .outcomes);
+      sw1 = r .progress .sw1;
+      sw2 = r .progress .sw2;
       outcomes = r .outcomes;
-      digits = digitsFound (r .opening .mode) (r .found .first);
-      expiry = expiryFound (r .opening .mode) (r .found .first);
+      digits = digitsFound (r .opening .mode) (r .found .step1);
+      expiry = expiryFound (r .opening .mode) (r .found .step1);
     }
 
 -- 0 open, 1 granted, 2 rejected.
@@ -75,10 +75,10 @@ verdictOn kind (v ∷ vs) = cond (eqb (v .kind) kind) (Option.some v) (verdictOn
 -- Step 3, and, on the one FASC-N read in step 1: the field 35 read with it is not before the opening date, its key is not in the list lent with the answer that
 -- ended step 1, and each verdict that the mode needs was accepted as a yes on those 25 bytes.
 pub record Granted (r : Reading) : Type 0 where
-  pub all-read : r .course .step ≡ 3
+  pub all-read : r .progress .step ≡ 3
   pub one : StepOne
-  pub read : r .found .first ≡ Option.some one
-  pub in-time : r .opening .date ≤ expiryIn (r .opening .mode) (one .joined)
-  pub not-listed : listed (keyIn (r .opening .mode) (one .joined)) (one .cancelled) ≡ false
-  pub verdicts : (kind : ℕ) → goodKind kind ≡ true → needs (r .opening .mode) (checkOf kind) ≡ true
-      → verdictOn kind (r .found .verdicts) ≡ Option.some (record { kind = kind; says = 1; fascn = fascnIn (r .opening .mode) (one .joined) })
+  pub read : r .found .step1 ≡ Option.some one
+  pub in-time : r .opening .date ≤ expiryRead (r .opening .mode) (one .joined)
+  pub not-listed : listed (keyRead (r .opening .mode) (one .joined)) (one .cancelled) ≡ false
+  pub verdicts : (kind : ℕ) → goodKind kind ≡ true → needs (r .opening .mode) (checkServed kind) ≡ true
+      → verdictOn kind (r .found .verdicts) ≡ Option.some (record { kind = kind; yesNo = 1; fascn = fascnRead (r .opening .mode) (one .joined) })

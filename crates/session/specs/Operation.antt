@@ -5,18 +5,18 @@ use mathlib.Core.List.{List, [], _∷_}
 use Prim.Native.Nat.{ℕ, _+_}
 use lib.Dec.{eqb}
 use lib.ListN.{length, getD, take, drop, replicate}
-use Rattle.card.specs.Range.{front, stored}
+use Rattle.card.specs.Lists.{overFront, overPlaces}
 use Rattle.card.specs.Refusal.{refusalOf}
 use Rattle.card.specs.Object.{empty, mostFields, rowsOf, objectOf, partIn, bytesAt}
 use Rattle.card.specs.Command.{statusOf}
 use Rattle.card.specs.declared.object.Part.{Part}
 use Rattle.card.specs.declared.command.Status.{Status}
 use Rattle.card.specs.declared.command.Status.the-variants.{Done, More, Other}
-use Rattle.session.specs.Tables.{checks, checkOf, withOutcome, neededOutcomes, verdictOutcome, causeOf, standingOf, kindAt, stepAfter, baseOf, capacity, stepOfTag, commandBytes, isResponse, dataOf, statusBytes, ruleCause, statusShown, fascnIn, expiryIn, judgedOutcomes, joinedCause, headOf, layout}
+use Rattle.session.specs.Tables.{checks, checkServed, withOutcome, neededOutcomes, verdictOutcome, causeOf, standingOf, kindAt, stepAfter, baseOf, capacity, stepOfTag, commandBytes, isResponse, dataOf, statusBytes, ruleCause, statusShown, fascnRead, expiryRead, judgedOutcomes, joinedCause, headOf, layout}
 use Rattle.session.specs.Condition.{openConditions, commandConditions, answerConditions, verdictConditions, fieldConditions, stampConditions}
 use Rattle.session.specs.Ranges.{outOfRange}
-use Rattle.session.specs.declared.state.Setting.{Setting}
-use Rattle.session.specs.declared.state.Progress.{Progress}
+use Rattle.session.specs.declared.state.SessionOpening.{SessionOpening}
+use Rattle.session.specs.declared.state.SessionProgress.{SessionProgress}
 use Rattle.session.specs.declared.state.Card.{Card}
 use Rattle.session.specs.declared.state.Session.{Session}
 use Rattle.session.specs.declared.state.Next.{Next}
@@ -52,32 +52,32 @@ given r = (replyNumber (r .reply), r .session)
 abbrev pub commandGiven : Commanded → ℕ × ℕ × Session
 commandGiven r = (replyNumber (r .reply), r .count, r .session)
 
-abbrev pub withProgress : Session → Progress → Session
-withProgress s p = record { setting = s .setting; progress = p; outcomes = s .outcomes; card = s .card }
+abbrev pub withSessionProgress : Session → SessionProgress → Session
+withSessionProgress s p = record { opening = s .opening; progress = p; outcomes = s .outcomes; card = s .card }
 
 -- ---- open
 
 -- A step begins.
-abbrev pub begun : ℕ → Progress
-begun step = record { step = step; filled = 0; outstanding = false; next = Initial; cause = 0; sw1 = 0; sw2 = 0 }
+abbrev pub progressAtStep : ℕ → SessionProgress
+progressAtStep step = record { step = step; filled = 0; outstanding = false; next = Initial; cause = 0; sw1 = 0; sw2 = 0 }
 
 abbrev pub noParts : List Part
 noParts = replicate mostFields empty
 
 abbrev pub noCard : Card
-noCard = record { fascn = replicate 25 0; expiry = 0; first = noParts; second = noParts }
+noCard = record { fascn = replicate 25 0; expiry = 0; step1 = noParts; step2 = noParts }
 
 -- "a dead session, all zeros"
 abbrev pub dead : Session
 dead =
-    record { setting = record { mode = 0; date = 0; aid = replicate 16 0; «aid_len» = 0 }; progress = begun 0; outcomes = replicate checks 0; card = noCard }
+    record { opening = record { mode = 0; date = 0; aid = replicate 16 0; «aid_len» = 0 }; progress = progressAtStep 0; outcomes = replicate checks 0; card = noCard }
 
 -- The session that an accepted opening gives; the AID is kept with zeros after it.
 unfoldable pub opened : ℕ → ℕ → List ℕ → Session
 opened mode date aid =
     record {
-      setting = record { mode = mode; date = date; aid = front aid (replicate 16 0); «aid_len» = length aid };
-      progress = begun 0;
+      opening = record { mode = mode; date = date; aid = overFront aid (replicate 16 0); «aid_len» = length aid };
+      progress = progressAtStep 0;
       outcomes = neededOutcomes mode;
       card = noCard;
     }
@@ -92,24 +92,24 @@ openOf mode date aid = cond (eqb (openRefusal mode date aid) 0) (0, opened mode 
 
 -- The bytes of the session's next command.
 unfoldable pub commandIn : Session → List ℕ
-commandIn s = commandBytes (s .setting .mode) (take (s .setting .«aid_len») (s .setting .aid)) (s .progress .step) (s .progress .next)
+commandIn s = commandBytes (s .opening .mode) (take (s .opening .«aid_len») (s .opening .aid)) (s .progress .step) (s .progress .next)
 
 unfoldable pub commandRefusal : Session → ℕ → ℕ
 commandRefusal s room =
     refusalOf ((4, outOfRange s) ∷ commandConditions (s .progress .step) (s .progress .cause) (s .progress .outstanding) room (length (commandIn s)))
 
 -- The next command is outstanding.
-abbrev pub sent : Progress → Progress
-sent p =
+abbrev pub progressSending : SessionProgress → SessionProgress
+progressSending p =
     record { step = p .step; filled = p .filled; outstanding = true; next = p .next; cause = p .cause; sw1 = p .sw1; sw2 = p .sw2 }
 
 unfoldable pub commandOf : Session → ℕ → ℕ × ℕ × Session
 commandOf s room =
-    cond (eqb (commandRefusal s room) 0) (0, length (commandIn s), withProgress s (sent (s .progress))) (commandRefusal s room, 0, s)
+    cond (eqb (commandRefusal s room) 0) (0, length (commandIn s), withSessionProgress s (progressSending (s .progress))) (commandRefusal s room, 0, s)
 
 -- The lent buffer then.
 unfoldable pub commandBuffer : Session → List ℕ → List ℕ
-commandBuffer s out = cond (eqb (commandRefusal s (length out)) 0) (front (commandIn s) out) out
+commandBuffer s out = cond (eqb (commandRefusal s (length out)) 0) (overFront (commandIn s) out) out
 
 -- ---- answer
 
@@ -117,108 +117,108 @@ unfoldable pub answerRefusal : Session → ℕ → ℕ → ℕ
 answerRefusal s size n = refusalOf ((4, outOfRange s) ∷ answerConditions (s .progress .outstanding) size n)
 
 -- A cause ends the reading.
-abbrev pub ended : Progress → ℕ → ℕ → ℕ → Progress
-ended p cause sw1 sw2 =
+abbrev pub progressStopped : SessionProgress → ℕ → ℕ → ℕ → SessionProgress
+progressStopped p cause sw1 sw2 =
     record { step = p .step; filled = p .filled; outstanding = false; next = p .next; cause = cause; sw1 = sw1; sw2 = sw2 }
 
 -- More data is to be asked for, n bytes being appended.
-abbrev pub more : Progress → ℕ → ℕ → Progress
-more p n second =
+abbrev pub progressContinued : SessionProgress → ℕ → ℕ → SessionProgress
+progressContinued p n second =
     record { step = p .step; filled = p .filled + n; outstanding = false; next = GetResponse second; cause = 0; sw1 = 0; sw2 = 0 }
 
 -- Step 1's good end sets checks 3 and 4; FASC-N, expiry and the places of the fields are kept.
-abbrev pub firstRead : Session → List ℕ → List ℕ → Session
-firstRead s joined cancelled =
-    let mode = s .setting .mode in
+abbrev pub step1EndSession : Session → List ℕ → List ℕ → Session
+step1EndSession s joined cancelled =
+    let mode = s .opening .mode in
     record {
-      setting = s .setting;
-      progress = begun (stepAfter mode 1);
-      outcomes = judgedOutcomes mode (s .setting .date) (s .outcomes) joined cancelled;
-      card = record { fascn = fascnIn mode joined; expiry = expiryIn mode joined; first = objectOf (kindAt mode 1) joined .1; second = s .card .second };
+      opening = s .opening;
+      progress = progressAtStep (stepAfter mode 1);
+      outcomes = judgedOutcomes mode (s .opening .date) (s .outcomes) joined cancelled;
+      card = record { fascn = fascnRead mode joined; expiry = expiryRead mode joined; step1 = objectOf (kindAt mode 1) joined .1; step2 = s .card .step2 };
     }
 
 -- Step 2's good end: the places of the fields are kept.
-abbrev pub secondRead : Session → List Part → Session
-secondRead s parts =
+abbrev pub step2EndSession : Session → List Part → Session
+step2EndSession s parts =
     record {
-      setting = s .setting;
-      progress = begun 3;
+      opening = s .opening;
+      progress = progressAtStep 3;
       outcomes = s .outcomes;
-      card = record { fascn = s .card .fascn; expiry = s .card .expiry; first = s .card .first; second = parts };
+      card = record { fascn = s .card .fascn; expiry = s .card .expiry; step1 = s .card .step1; step2 = parts };
     }
 
 -- The good end of a step, by its joined data.
-unfoldable pub nextStep : Session → List ℕ → List ℕ → Session
-nextStep s joined cancelled =
-    let mode = s .setting .mode in
-    cond (eqb (s .progress .step) 0) (withProgress s (begun (stepAfter mode 0)))
-    (cond (eqb (s .progress .step) 1) (firstRead s joined cancelled) (secondRead s (objectOf (kindAt mode (s .progress .step)) joined .1)))
+unfoldable pub goodEndSession : Session → List ℕ → List ℕ → Session
+goodEndSession s joined cancelled =
+    let mode = s .opening .mode in
+    cond (eqb (s .progress .step) 0) (withSessionProgress s (progressAtStep (stepAfter mode 0)))
+    (cond (eqb (s .progress .step) 1) (step1EndSession s joined cancelled) (step2EndSession s (objectOf (kindAt mode (s .progress .step)) joined .1)))
 
 -- The step's joined data is judged.
 unfoldable pub judgedSession : Session → List ℕ → List ℕ → Session
 judgedSession s joined cancelled =
-    let k = joinedCause (s .setting .mode) (s .progress .step) joined in
-    cond (eqb k 0) (nextStep s joined cancelled) (withProgress s (ended (s .progress) k 0 0))
+    let k = joinedCause (s .opening .mode) (s .progress .step) joined in
+    cond (eqb k 0) (goodEndSession s joined cancelled) (withSessionProgress s (progressStopped (s .progress) k 0 0))
 
 -- The cause of rules 1 to 3.
 abbrev pub causeIn : Session → Status → ℕ → ℕ
 causeIn s status n =
-    ruleCause status (isResponse (s .progress .next)) n (s .progress .filled) (capacity (s .setting .mode) (s .progress .step))
+    ruleCause status (isResponse (s .progress .next)) n (s .progress .filled) (capacity (s .opening .mode) (s .progress .step))
 
 -- Where the data of the next answer is stored in the object buffer, and the step's joined data once n bytes are.
-abbrev pub placeOf : Progress → ℕ
+abbrev pub placeOf : SessionProgress → ℕ
 placeOf p = baseOf (p .step) + p .filled
 
-unfoldable pub joinedIn : Progress → List ℕ → ℕ → List ℕ
+unfoldable pub joinedIn : SessionProgress → List ℕ → ℕ → List ℕ
 joinedIn p object n = take (p .filled + n) (drop (baseOf (p .step)) object)
 
 -- By the status of an answer whose data, n bytes, is appended.
 abbrev pub appendedSession : Status → Session → List ℕ → ℕ → List ℕ → Session
-appendedSession (More second) s joined n cancelled = withProgress s (more (s .progress) n second)
+appendedSession (More second) s joined n cancelled = withSessionProgress s (progressContinued (s .progress) n second)
 appendedSession Done s joined n cancelled = judgedSession s joined cancelled
 appendedSession Other s joined n cancelled = judgedSession s joined cancelled
 
 -- An answer that is accepted.
-unfoldable pub takenSession : Session → List ℕ → List ℕ → List ℕ → List ℕ → Session
-takenSession s object bytes status cancelled =
+unfoldable pub answerTakenSession : Session → List ℕ → List ℕ → List ℕ → List ℕ → Session
+answerTakenSession s object bytes status cancelled =
     let k = causeIn s (statusOf status) (length bytes) in
     cond (eqb k 0)
-    (appendedSession (statusOf status) s (joinedIn (s .progress) (stored object (placeOf (s .progress)) bytes) (length bytes)) (length bytes) cancelled)
-    (withProgress s (ended (s .progress) k (statusShown k (getD status 0 0)) (statusShown k (getD status 1 0))))
+    (appendedSession (statusOf status) s (joinedIn (s .progress) (overPlaces object (placeOf (s .progress)) bytes) (length bytes)) (length bytes) cancelled)
+    (withSessionProgress s (progressStopped (s .progress) k (statusShown k (getD status 0 0)) (statusShown k (getD status 1 0))))
 
-unfoldable pub takenBuffer : Session → List ℕ → List ℕ → List ℕ → List ℕ
-takenBuffer s object bytes status =
-    cond (eqb (causeIn s (statusOf status) (length bytes)) 0) (stored object (placeOf (s .progress)) bytes) object
+unfoldable pub answerTakenBuffer : Session → List ℕ → List ℕ → List ℕ → List ℕ
+answerTakenBuffer s object bytes status =
+    cond (eqb (causeIn s (statusOf status) (length bytes)) 0) (overPlaces object (placeOf (s .progress)) bytes) object
 
 unfoldable pub answerOf : Session → List ℕ → List ℕ → List ℕ → ℕ × Session
 answerOf s object bytes cancelled =
     let k = answerRefusal s (length object) (length bytes) in
-    cond (eqb k 0) (0, takenSession s object (dataOf bytes) (statusBytes bytes) cancelled) (k, s)
+    cond (eqb k 0) (0, answerTakenSession s object (dataOf bytes) (statusBytes bytes) cancelled) (k, s)
 
 -- The object buffer then.
 unfoldable pub answerBuffer : Session → List ℕ → List ℕ → List ℕ
 answerBuffer s object bytes =
-    cond (eqb (answerRefusal s (length object) (length bytes)) 0) (takenBuffer s object (dataOf bytes) (statusBytes bytes)) object
+    cond (eqb (answerRefusal s (length object) (length bytes)) 0) (answerTakenBuffer s object (dataOf bytes) (statusBytes bytes)) object
 
 -- ---- verdict
 
 unfoldable pub verdictRefusal : Session → ℕ → ℕ → List ℕ → ℕ
-verdictRefusal s kind says fascn =
-    refusalOf ((4, outOfRange s) ∷ verdictConditions (s .setting .mode) (s .progress .step) (s .outcomes) kind says fascn)
+verdictRefusal s kind yesNo fascn =
+    refusalOf ((4, outOfRange s) ∷ verdictConditions (s .opening .mode) (s .progress .step) (s .outcomes) kind yesNo fascn)
 
-unfoldable pub heardSession : Session → ℕ → ℕ → List ℕ → Session
-heardSession s kind says fascn =
+unfoldable pub verdictTakenSession : Session → ℕ → ℕ → List ℕ → Session
+verdictTakenSession s kind yesNo fascn =
     record {
-      setting = s .setting;
+      opening = s .opening;
       progress = s .progress;
-      outcomes = withOutcome (s .outcomes) (checkOf kind) (verdictOutcome (s .card .fascn) says fascn);
+      outcomes = withOutcome (s .outcomes) (checkServed kind) (verdictOutcome (s .card .fascn) yesNo fascn);
       card = s .card;
     }
 
 unfoldable pub verdictOf : Session → ℕ → ℕ → List ℕ → ℕ × Session
-verdictOf s kind says fascn =
-    let k = verdictRefusal s kind says fascn in
-    cond (eqb k 0) (0, heardSession s kind says fascn) (k, s)
+verdictOf s kind yesNo fascn =
+    let k = verdictRefusal s kind yesNo fascn in
+    cond (eqb k 0) (0, verdictTakenSession s kind yesNo fascn) (k, s)
 
 -- ---- field
 
@@ -227,11 +227,11 @@ fieldRefusal s size = refusalOf ((4, outOfRange s) ∷ fieldConditions size)
 
 -- The parts of a step's object.
 abbrev pub partsAt : Card → ℕ → List Part
-partsAt c step = cond (eqb step 2) (c .second) (c .first)
+partsAt c step = cond (eqb step 2) (c .step2) (c .step1)
 
 -- The part of the field with a tag of the step's object, in the step's data.
 abbrev pub partFor : Session → ℕ → ℕ → Part
-partFor s step tag = partIn (rowsOf (kindAt (s .setting .mode) step)) (partsAt (s .card) step) tag
+partFor s step tag = partIn (rowsOf (kindAt (s .opening .mode) step)) (partsAt (s .card) step) tag
 
 -- The value as a part of the object buffer, or the empty part.
 unfoldable pub fieldOf : Session → List ℕ → ℕ → List ℕ
@@ -249,13 +249,13 @@ unfoldable pub stampHead : Session → List ℕ
 stampHead s =
     let p = s .progress in
     let cause = causeOf (p .cause) (s .outcomes) in
-    headOf (s .setting .mode) (standingOf (s .setting .mode) (p .step) cause (s .outcomes)) cause (statusShown (p .cause) (p .sw1)) (statusShown (p .cause) (p .sw2)) (p .step)
+    headOf (s .opening .mode) (standingOf (s .opening .mode) (p .step) cause (s .outcomes)) cause (statusShown (p .cause) (p .sw1)) (statusShown (p .cause) (p .sw2)) (p .step)
 
 unfoldable pub stampIn : Session → List ℕ
-stampIn s = layout (stampHead s) (s .outcomes) (s .setting .date) (s .card .fascn) (s .card .expiry)
+stampIn s = layout (stampHead s) (s .outcomes) (s .opening .date) (s .card .fascn) (s .card .expiry)
 
 unfoldable pub stampAnswer : Session → ℕ → ℕ × Session
 stampAnswer s room = (stampRefusal s room, s)
 
 unfoldable pub stampBuffer : Session → List ℕ → List ℕ
-stampBuffer s out = cond (eqb (stampRefusal s (length out)) 0) (front (stampIn s) out) out
+stampBuffer s out = cond (eqb (stampRefusal s (length out)) 0) (overFront (stampIn s) out) out

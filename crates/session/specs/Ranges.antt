@@ -5,20 +5,20 @@ use mathlib.Core.List.{List}
 use Prim.Native.Nat.{ℕ, _+_, _-_}
 use lib.Dec.{eqb, ltb, leb}
 use lib.ListN.{getD}
-use Rattle.card.specs.Range.{all}
+use Rattle.card.specs.Lists.{all}
 use Rattle.card.specs.Date.{realDate}
 use Rattle.card.specs.Object.{empty, mostFields}
 use Rattle.card.specs.declared.object.Part.{Part}
 use Rattle.session.specs.Tables.{checks, goodMode, ends, hasStep2, baseOf, capacity, objectSize}
-use Rattle.session.specs.declared.state.Setting.{Setting}
-use Rattle.session.specs.declared.state.Progress.{Progress}
+use Rattle.session.specs.declared.state.SessionOpening.{SessionOpening}
+use Rattle.session.specs.declared.state.SessionProgress.{SessionProgress}
 use Rattle.session.specs.declared.state.Card.{Card}
 use Rattle.session.specs.declared.state.Session.{Session}
 use Rattle.session.specs.declared.range.Values.{Values}
 
 -- "mode 1–4", "opening date real", "AID length 5–16"
-abbrev pub settingInRange : Setting → Bool
-settingInRange s = (goodMode (s .mode) && realDate (s .date)) && (leb 5 (s .«aid_len») && leb (s .«aid_len») 16)
+abbrev pub openingInRange : SessionOpening → Bool
+openingInRange s = (goodMode (s .mode) && realDate (s .date)) && (leb 5 (s .«aid_len») && leb (s .«aid_len») 16)
 
 -- "step 0–3 (2 only in modes 3 and 4)"
 abbrev pub stepInRange : ℕ → ℕ → Bool
@@ -33,7 +33,7 @@ abbrev pub outstandingInRange : Bool → ℕ → ℕ → Bool
 outstandingInRange outstanding step cause = not outstanding || (leb step 2 && eqb cause 0)
 
 -- "filled 0–4,096" beside these
-abbrev pub progressInRange : ℕ → Progress → Bool
+abbrev pub progressInRange : ℕ → SessionProgress → Bool
 progressInRange mode p =
     (stepInRange mode (p .step) && leb (p .filled) (capacity mode (p .step))) && (causeInRange (p .cause) && outstandingInRange (p .outstanding) (p .step) (p .cause))
 
@@ -50,11 +50,11 @@ partsInside base ps = all mostFields (λ i. partInside base (getD ps i empty))
 
 -- "expiry real or 0"; "FASC-N any 25 bytes" asks nothing.
 abbrev pub cardInRange : Card → Bool
-cardInRange c = (eqb (c .expiry) 0 || realDate (c .expiry)) && (partsInside (baseOf 1) (c .first) && partsInside (baseOf 2) (c .second))
+cardInRange c = (eqb (c .expiry) 0 || realDate (c .expiry)) && (partsInside (baseOf 1) (c .step1) && partsInside (baseOf 2) (c .step2))
 
 unfoldable pub inRange : Session → Bool
 inRange s =
-    (settingInRange (s .setting) && progressInRange (s .setting .mode) (s .progress)) && (outcomesInRange (s .outcomes) && cardInRange (s .card))
+    (openingInRange (s .opening) && progressInRange (s .opening .mode) (s .progress)) && (outcomesInRange (s .outcomes) && cardInRange (s .card))
 
 abbrev pub outOfRange : Session → Bool
 outOfRange s = not (inRange s)
@@ -64,15 +64,15 @@ outOfRange s = not (inRange s)
 unfoldable pub valuesOf : Session → Values
 valuesOf s =
     record {
-      date = s .setting .date;
+      date = s .opening .date;
       expiry = s .card .expiry;
-      «aid_len» = s .setting .«aid_len»;
+      «aid_len» = s .opening .«aid_len»;
       filled = s .progress .filled;
-      mode = s .setting .mode;
+      mode = s .opening .mode;
       step = s .progress .step;
       cause = s .progress .cause;
       outstanding = s .progress .outstanding;
-      inside = partsInside (baseOf 1) (s .card .first) && partsInside (baseOf 2) (s .card .second);
+      inside = partsInside (baseOf 1) (s .card .step1) && partsInside (baseOf 2) (s .card .step2);
       outcomes = s .outcomes;
     }
 

@@ -12,7 +12,7 @@ use Rattle.card.specs.Object.{fieldValue}
 use Rattle.card.specs.Command.{statusOf}
 use Rattle.card.specs.declared.command.Status.{Status}
 use Rattle.card.specs.declared.command.Status.the-variants.{Done, More, Other}
-use Rattle.session.specs.Tables.{checkOf, neededOutcomes, withOutcome, verdictOutcome, judgedOutcomes, kindAt, stepAfter, capacity, stepOfTag, commandBytes, isResponse, dataOf, statusBytes, ruleCause, statusShown, fascnIn, joinedCause}
+use Rattle.session.specs.Tables.{checkServed, neededOutcomes, withOutcome, verdictOutcome, judgedOutcomes, kindAt, stepAfter, capacity, stepOfTag, commandBytes, isResponse, dataOf, statusBytes, ruleCause, statusShown, fascnRead, joinedCause}
 use Rattle.session.specs.Condition.{commandConditions, answerConditions, verdictConditions, fieldConditions, stampConditions}
 use Rattle.session.specs.declared.state.Next.{Next}
 use Rattle.session.specs.declared.state.Next.the-variants.{Initial, GetResponse}
@@ -26,18 +26,18 @@ pub record Opening : Type 0 where
   pub aid : List ℕ
 
 -- A call's arguments; of a buffer that it is lent, the length alone.
-pub data Told : Type 0 where
-  command : (room : ℕ) → Told
-  answer : (size : ℕ) (bytes cancelled : List ℕ) → Told
-  verdict : (kind says : ℕ) (fascn : List ℕ) → Told
-  field : (size tag : ℕ) → Told
-  stamp : (room : ℕ) → Told
+pub data Arguments : Type 0 where
+  command : (room : ℕ) → Arguments
+  answer : (size : ℕ) (bytes cancelled : List ℕ) → Arguments
+  verdict : (kind yesNo : ℕ) (fascn : List ℕ) → Arguments
+  field : (size tag : ℕ) → Arguments
+  stamp : (room : ℕ) → Arguments
 
 -- ---- what is read
 
 -- The step, the cause (16 to 22, or 0) with the status word of the answer that gave cause 16, the step's joined data, whether a command is outstanding, and the
 -- next command.
-pub record Course : Type 0 where
+pub record Progress : Type 0 where
   pub step : ℕ
   pub cause : ℕ
   pub sw1 : ℕ
@@ -54,162 +54,162 @@ pub record StepOne : Type 0 where
 -- A verdict that was accepted.
 pub record Verdict : Type 0 where
   pub kind : ℕ
-  pub says : ℕ
+  pub yesNo : ℕ
   pub fascn : List ℕ
 
 -- What the good ends of steps 1 and 2 gave, and the accepted verdicts, the last one first.
 pub record Found : Type 0 where
-  pub first : Option StepOne
-  pub second : Option (List ℕ)
+  pub step1 : Option StepOne
+  pub step2 : Option (List ℕ)
   pub verdicts : List Verdict
 
 pub record Reading : Type 0 where
   pub opening : Opening
-  pub course : Course
+  pub progress : Progress
   pub outcomes : List ℕ
   pub found : Found
 
 -- ---- how it begins
 
 -- A step begins: no data of its own yet, and its command is next.
-abbrev pub atStep : ℕ → Course
+abbrev pub atStep : ℕ → Progress
 atStep step = record { step = step; cause = 0; sw1 = 0; sw2 = 0; joined = []; outstanding = false; next = Initial }
 
 -- "It starts at step 0 with no cause, no data, no command outstanding, SELECT next, needed outcomes 1, others 0."
 abbrev pub begins : Opening → Reading
 begins o =
-    record { opening = o; course = atStep 0; outcomes = neededOutcomes (o .mode); found = record { first = Option.none; second = Option.none; verdicts = [] } }
+    record { opening = o; progress = atStep 0; outcomes = neededOutcomes (o .mode); found = record { step1 = Option.none; step2 = Option.none; verdicts = [] } }
 
-abbrev pub withCourse : Reading → Course → Reading
-withCourse r c = record { opening = r .opening; course = c; outcomes = r .outcomes; found = r .found }
+abbrev pub withProgress : Reading → Progress → Reading
+withProgress r c = record { opening = r .opening; progress = c; outcomes = r .outcomes; found = r .found }
 
 -- ---- a command call: "makes the next command outstanding"
 
 abbrev pub nextCommand : Reading → List ℕ
-nextCommand r = commandBytes (r .opening .mode) (r .opening .aid) (r .course .step) (r .course .next)
+nextCommand r = commandBytes (r .opening .mode) (r .opening .aid) (r .progress .step) (r .progress .next)
 
 unfoldable pub commandRefused : Reading → ℕ → ℕ
 commandRefused r room =
-    refusalOf (commandConditions (r .course .step) (r .course .cause) (r .course .outstanding) room (length (nextCommand r)))
+    refusalOf (commandConditions (r .progress .step) (r .progress .cause) (r .progress .outstanding) room (length (nextCommand r)))
 
-abbrev pub sending : Course → Course
+abbrev pub sending : Progress → Progress
 sending c =
     record { step = c .step; cause = c .cause; sw1 = c .sw1; sw2 = c .sw2; joined = c .joined; outstanding = true; next = c .next }
 
 -- ---- an answer call: "ends that and follows the rules above"
 
 unfoldable pub answerRefused : Reading → ℕ → ℕ → ℕ
-answerRefused r size n = refusalOf (answerConditions (r .course .outstanding) size n)
+answerRefused r size n = refusalOf (answerConditions (r .progress .outstanding) size n)
 
 -- "A cause of 16 to 22 ends the reading at that step for good."
-abbrev pub stopped : Course → ℕ → ℕ → ℕ → Course
+abbrev pub stopped : Progress → ℕ → ℕ → ℕ → Progress
 stopped c cause sw1 sw2 =
     record { step = c .step; cause = cause; sw1 = sw1; sw2 = sw2; joined = c .joined; outstanding = false; next = c .next }
 
 -- "After 61 GET RESPONSE is next."
-abbrev pub continued : Course → List ℕ → ℕ → Course
+abbrev pub continued : Progress → List ℕ → ℕ → Progress
 continued c joined second =
     record { step = c .step; cause = 0; sw1 = 0; sw2 = 0; joined = joined; outstanding = false; next = GetResponse second }
 
 -- Step 1's good end sets checks 3 and 4; what was read is kept, with the list.
-abbrev pub firstEnd : Reading → List ℕ → List ℕ → Reading
-firstEnd r joined cancelled =
+abbrev pub step1End : Reading → List ℕ → List ℕ → Reading
+step1End r joined cancelled =
     let mode = r .opening .mode in
     record {
       opening = r .opening;
-      course = atStep (stepAfter mode 1);
+      progress = atStep (stepAfter mode 1);
       outcomes = judgedOutcomes mode (r .opening .date) (r .outcomes) joined cancelled;
-      found = record { first = Option.some (record { joined = joined; cancelled = cancelled }); second = r .found .second; verdicts = r .found .verdicts };
+      found = record { step1 = Option.some (record { joined = joined; cancelled = cancelled }); step2 = r .found .step2; verdicts = r .found .verdicts };
     }
 
 -- Step 2's good end: what was read is kept.
-abbrev pub secondEnd : Reading → List ℕ → Reading
-secondEnd r joined =
+abbrev pub step2End : Reading → List ℕ → Reading
+step2End r joined =
     record {
       opening = r .opening;
-      course = atStep (stepAfter (r .opening .mode) 2);
+      progress = atStep (stepAfter (r .opening .mode) 2);
       outcomes = r .outcomes;
-      found = record { first = r .found .first; second = Option.some joined; verdicts = r .found .verdicts };
+      found = record { step1 = r .found .step1; step2 = Option.some joined; verdicts = r .found .verdicts };
     }
 
 -- The good end of a step: the next step begins.
 unfoldable pub goodEnd : Reading → List ℕ → List ℕ → Reading
 goodEnd r joined cancelled =
-    cond (eqb (r .course .step) 0) (withCourse r (atStep (stepAfter (r .opening .mode) 0)))
-    (cond (eqb (r .course .step) 1) (firstEnd r joined cancelled) (secondEnd r joined))
+    cond (eqb (r .progress .step) 0) (withProgress r (atStep (stepAfter (r .opening .mode) 0)))
+    (cond (eqb (r .progress .step) 1) (step1End r joined cancelled) (step2End r joined))
 
 -- The step's joined data is judged.
 unfoldable pub judged : Reading → List ℕ → List ℕ → Reading
 judged r joined cancelled =
-    let k = joinedCause (r .opening .mode) (r .course .step) joined in
-    cond (eqb k 0) (goodEnd r joined cancelled) (withCourse r (stopped (r .course) k 0 0))
+    let k = joinedCause (r .opening .mode) (r .progress .step) joined in
+    cond (eqb k 0) (goodEnd r joined cancelled) (withProgress r (stopped (r .progress) k 0 0))
 
 -- Rule 4: "the data is appended. After 61 GET RESPONSE is next. After 90 00 the step's joined data is judged". Any other status word gave cause 16 by rule 1, and
 -- does not come here.
 abbrev pub appended : Status → Reading → List ℕ → List ℕ → Reading
-appended (More second) r joined cancelled = withCourse r (continued (r .course) joined second)
+appended (More second) r joined cancelled = withProgress r (continued (r .progress) joined second)
 appended Done r joined cancelled = judged r joined cancelled
 appended Other r joined cancelled = judged r joined cancelled
 
 -- Rules 1 to 3 on the step's joined data.
-abbrev pub causeBy : Course → ℕ → Status → List ℕ → ℕ
+abbrev pub causeBy : Progress → ℕ → Status → List ℕ → ℕ
 causeBy c most status bytes = ruleCause status (isResponse (c .next)) (length bytes) (length (c .joined)) most
 
 -- The effect of an answer, "first rule that fits".
-unfoldable pub answered : Reading → List ℕ → List ℕ → List ℕ → Reading
-answered r bytes status cancelled =
-    let k = causeBy (r .course) (capacity (r .opening .mode) (r .course .step)) (statusOf status) bytes in
-    cond (eqb k 0) (appended (statusOf status) r (r .course .joined ++ bytes) cancelled)
-    (withCourse r (stopped (r .course) k (statusShown k (getD status 0 0)) (statusShown k (getD status 1 0))))
+unfoldable pub answerTaken : Reading → List ℕ → List ℕ → List ℕ → Reading
+answerTaken r bytes status cancelled =
+    let k = causeBy (r .progress) (capacity (r .opening .mode) (r .progress .step)) (statusOf status) bytes in
+    cond (eqb k 0) (appended (statusOf status) r (r .progress .joined ++ bytes) cancelled)
+    (withProgress r (stopped (r .progress) k (statusShown k (getD status 0 0)) (statusShown k (getD status 1 0))))
 
 -- ---- a verdict call: "sets its check's outcome"
 
 -- Step 1's FASC-N; zeros before its good end.
 abbrev pub ownFascn : ℕ → Option StepOne → List ℕ
 ownFascn mode Option.none = replicate 25 0
-ownFascn mode (Option.some f) = fascnIn mode (f .joined)
+ownFascn mode (Option.some f) = fascnRead mode (f .joined)
 
 unfoldable pub verdictRefused : Reading → ℕ → ℕ → List ℕ → ℕ
-verdictRefused r kind says fascn =
-    refusalOf (verdictConditions (r .opening .mode) (r .course .step) (r .outcomes) kind says fascn)
+verdictRefused r kind yesNo fascn =
+    refusalOf (verdictConditions (r .opening .mode) (r .progress .step) (r .outcomes) kind yesNo fascn)
 
-abbrev pub heard : Reading → ℕ → ℕ → List ℕ → Reading
-heard r kind says fascn =
+abbrev pub verdictTaken : Reading → ℕ → ℕ → List ℕ → Reading
+verdictTaken r kind yesNo fascn =
     record {
       opening = r .opening;
-      course = r .course;
-      outcomes = withOutcome (r .outcomes) (checkOf kind) (verdictOutcome (ownFascn (r .opening .mode) (r .found .first)) says fascn);
-      found = record { first = r .found .first; second = r .found .second; verdicts = record { kind = kind; says = says; fascn = fascn } ∷ r .found .verdicts };
+      progress = r .progress;
+      outcomes = withOutcome (r .outcomes) (checkServed kind) (verdictOutcome (ownFascn (r .opening .mode) (r .found .step1)) yesNo fascn);
+      found = record { step1 = r .found .step1; step2 = r .found .step2; verdicts = record { kind = kind; yesNo = yesNo; fascn = fascn } ∷ r .found .verdicts };
     }
 
 -- ---- every call
 
 -- The number that refuses a call, by its arguments and the reading; 0 where none does.
-abbrev pub refusedBy : Reading → Told → ℕ
-refusedBy r (Told.command room) = commandRefused r room
-refusedBy r (Told.answer size bytes cancelled) = answerRefused r size (length bytes)
-refusedBy r (Told.verdict kind says fascn) = verdictRefused r kind says fascn
-refusedBy r (Told.field size tag) = refusalOf (fieldConditions size)
-refusedBy r (Told.stamp room) = refusalOf (stampConditions room)
+abbrev pub refusedBy : Reading → Arguments → ℕ
+refusedBy r (Arguments.command room) = commandRefused r room
+refusedBy r (Arguments.answer size bytes cancelled) = answerRefused r size (length bytes)
+refusedBy r (Arguments.verdict kind yesNo fascn) = verdictRefused r kind yesNo fascn
+refusedBy r (Arguments.field size tag) = refusalOf (fieldConditions size)
+refusedBy r (Arguments.stamp room) = refusalOf (stampConditions room)
 
 -- What a call that is accepted makes of the reading. "Field and stamp calls change nothing."
-abbrev pub accepted : Reading → Told → Reading
-accepted r (Told.command room) = withCourse r (sending (r .course))
-accepted r (Told.answer size bytes cancelled) = answered r (dataOf bytes) (statusBytes bytes) cancelled
-accepted r (Told.verdict kind says fascn) = heard r kind says fascn
-accepted r (Told.field size tag) = r
-accepted r (Told.stamp room) = r
+abbrev pub accepted : Reading → Arguments → Reading
+accepted r (Arguments.command room) = withProgress r (sending (r .progress))
+accepted r (Arguments.answer size bytes cancelled) = answerTaken r (dataOf bytes) (statusBytes bytes) cancelled
+accepted r (Arguments.verdict kind yesNo fascn) = verdictTaken r kind yesNo fascn
+accepted r (Arguments.field size tag) = r
+accepted r (Arguments.stamp room) = r
 
 -- "A call that a condition below fits is refused and changes nothing."
-unfoldable pub read : Reading → Told → Reading
+unfoldable pub read : Reading → Arguments → Reading
 read r t = cond (eqb (refusedBy r t) 0) (accepted r t) r
 
-abbrev pub reading : Reading → List Told → Reading
+abbrev pub reading : Reading → List Arguments → Reading
 reading r [] = r
 reading r (t ∷ ts) = reading (read r t) ts
 
 -- The number of each call of a list.
-abbrev pub refusals : Reading → List Told → List ℕ
+abbrev pub refusals : Reading → List Arguments → List ℕ
 refusals r [] = []
 refusals r (t ∷ ts) = refusedBy r t ∷ refusals (read r t) ts
 
@@ -225,7 +225,7 @@ joinedTwo Option.none = []
 joinedTwo (Option.some joined) = joined
 
 abbrev pub joinedAt : Found → ℕ → List ℕ
-joinedAt f step = cond (eqb step 2) (joinedTwo (f .second)) (joinedOne (f .first))
+joinedAt f step = cond (eqb step 2) (joinedTwo (f .step2)) (joinedOne (f .step1))
 
 -- "the field's value in its step's joined data"; empty for another tag, and for a field not yet read or absent.
 unfoldable pub fieldIn : Reading → ℕ → List ℕ
@@ -235,22 +235,22 @@ fieldIn r tag =
 
 -- ---- answers taken
 
-abbrev pub isAnswer : Told → Bool
-isAnswer (Told.command room) = false
-isAnswer (Told.answer size bytes cancelled) = true
-isAnswer (Told.verdict kind says fascn) = false
-isAnswer (Told.field size tag) = false
-isAnswer (Told.stamp room) = false
+abbrev pub isAnswer : Arguments → Bool
+isAnswer (Arguments.command room) = false
+isAnswer (Arguments.answer size bytes cancelled) = true
+isAnswer (Arguments.verdict kind yesNo fascn) = false
+isAnswer (Arguments.field size tag) = false
+isAnswer (Arguments.stamp room) = false
 
 -- An answer is taken by this call.
-abbrev pub takes : Reading → Told → Bool
+abbrev pub takes : Reading → Arguments → Bool
 takes r t = isAnswer t && eqb (refusedBy r t) 0
 
 -- How many answers of a list are taken in a step, and in all.
-abbrev pub answersIn : ℕ → Reading → List Told → ℕ
+abbrev pub answersIn : ℕ → Reading → List Arguments → ℕ
 answersIn step r [] = 0
-answersIn step r (t ∷ ts) = cond (takes r t && eqb (r .course .step) step) 1 0 + answersIn step (read r t) ts
+answersIn step r (t ∷ ts) = cond (takes r t && eqb (r .progress .step) step) 1 0 + answersIn step (read r t) ts
 
-abbrev pub answers : Reading → List Told → ℕ
+abbrev pub answers : Reading → List Arguments → ℕ
 answers r [] = 0
 answers r (t ∷ ts) = cond (takes r t) 1 0 + answers (read r t) ts

@@ -6,7 +6,7 @@ use mathlib.Core.List.{List, [], _∷_, _++_}
 use Prim.Native.Nat.{ℕ, suc, _+_, _-_, _/_, _%_}
 use lib.Dec.{eqb, ltb, leb}
 use lib.ListN.{length, getD, set, take, drop}
-use Rattle.card.specs.Range.{listOf, all, sameBytes}
+use Rattle.card.specs.Lists.{listOf, all, sameBytes}
 use Rattle.card.specs.Refusal.{refusalOf}
 use Rattle.card.specs.Fascn.{unpackOf, keyOf}
 use Rattle.card.specs.Template.{templateOf}
@@ -50,8 +50,8 @@ needs mode check = isIn check (checksOf mode)
 abbrev pub goodKind : ℕ → Bool
 goodKind kind = leb 1 kind && leb kind 4
 
-unfoldable pub checkOf : ℕ → ℕ
-checkOf kind = cond (eqb kind 1) 1 (cond (eqb kind 2) 2 (cond (eqb kind 3) 5 6))
+unfoldable pub checkServed : ℕ → ℕ
+checkServed kind = cond (eqb kind 1) 1 (cond (eqb kind 2) 2 (cond (eqb kind 3) 5 6))
 
 -- ---- outcomes: a list of six, that of check 1 first
 
@@ -87,7 +87,7 @@ neededOutcomes mode = listOf checks (neededAt mode)
 
 -- "A no gives 3. A yes gives 2 if its 25 bytes equal step 1's FASC-N, else 4."
 unfoldable pub verdictOutcome : List ℕ → ℕ → List ℕ → ℕ
-verdictOutcome own says fascn = cond (eqb says 0) failed (cond (sameBytes fascn own) passed otherCard)
+verdictOutcome own yesNo fascn = cond (eqb yesNo 0) failed (cond (sameBytes fascn own) passed otherCard)
 
 -- Check 3: "2 if expiry is at or after the date given at opening, else 3".
 unfoldable pub expiryOutcome : ℕ → ℕ → ℕ
@@ -148,15 +148,15 @@ abbrev pub capacity : ℕ → ℕ → ℕ
 capacity mode step = 4096
 
 -- The tags that a field call may ask for: 30, 34, 35, 3E of step 1's object, BC of step 2's.
-abbrev pub firstTags : List ℕ
-firstTags = 0x30 ∷ 0x34 ∷ 0x35 ∷ 0x3E ∷ []
+abbrev pub step1Tags : List ℕ
+step1Tags = 0x30 ∷ 0x34 ∷ 0x35 ∷ 0x3E ∷ []
 
-abbrev pub secondTags : List ℕ
-secondTags = 0xBC ∷ []
+abbrev pub step2Tags : List ℕ
+step2Tags = 0xBC ∷ []
 
 -- The step whose object has the field with such a tag; 0 for another tag.
 unfoldable pub stepOfTag : ℕ → ℕ
-stepOfTag tag = cond (isIn tag firstTags) 1 (cond (isIn tag secondTags) 2 0)
+stepOfTag tag = cond (isIn tag step1Tags) 1 (cond (isIn tag step2Tags) 2 0)
 
 -- ---- commands and answers
 
@@ -199,22 +199,22 @@ abbrev pub statusShown : ℕ → ℕ → ℕ
 statusShown cause sw = cond (eqb cause 16) sw 0
 
 -- The FASC-N, its digits and key, and the expiry in the joined data of step 1.
-abbrev pub fascnIn : ℕ → List ℕ → List ℕ
-fascnIn mode joined = fieldValue (kindAt mode 1) 0x30 joined
+abbrev pub fascnRead : ℕ → List ℕ → List ℕ
+fascnRead mode joined = fieldValue (kindAt mode 1) 0x30 joined
 
-abbrev pub digitsIn : ℕ → List ℕ → List ℕ
-digitsIn mode joined = unpackOf (fascnIn mode joined) .1
+abbrev pub digitsRead : ℕ → List ℕ → List ℕ
+digitsRead mode joined = unpackOf (fascnRead mode joined) .1
 
-abbrev pub keyIn : ℕ → List ℕ → ℕ
-keyIn mode joined = keyOf (digitsIn mode joined)
+abbrev pub keyRead : ℕ → List ℕ → ℕ
+keyRead mode joined = keyOf (digitsRead mode joined)
 
-abbrev pub expiryIn : ℕ → List ℕ → ℕ
-expiryIn mode joined = dateOf (fieldValue (kindAt mode 1) 0x35 joined) .1
+abbrev pub expiryRead : ℕ → List ℕ → ℕ
+expiryRead mode joined = dateOf (fieldValue (kindAt mode 1) 0x35 joined) .1
 
 -- "Step 1's good end sets check 3 and check 4", by its joined data.
 abbrev pub judgedOutcomes : ℕ → ℕ → List ℕ → List ℕ → List ℕ → List ℕ
 judgedOutcomes mode date outcomes joined cancelled =
-    withOutcome (withOutcome outcomes 3 (expiryOutcome date (expiryIn mode joined))) 4 (listOutcome (keyIn mode joined) cancelled)
+    withOutcome (withOutcome outcomes 3 (expiryOutcome date (expiryRead mode joined))) 4 (listOutcome (keyRead mode joined) cancelled)
 
 -- "After 90 00 the step's joined data is judged: template malformed, cause 19; object malformed, 20; FASC-N ill-formed, 21; date ill-formed, 22"; 0 where it is
 -- good, and the next step begins.
@@ -222,7 +222,7 @@ unfoldable pub objectCause : ℕ → ℕ → List ℕ → ℕ
 objectCause mode step joined =
     refusalOf
     ((20, not (eqb (objectOf (kindAt mode step) joined .0) 0))
-    ∷ (21, eqb step 1 && not (eqb (unpackOf (fascnIn mode joined) .0) 0))
+    ∷ (21, eqb step 1 && not (eqb (unpackOf (fascnRead mode joined) .0) 0))
     ∷ (22, eqb step 1 && not (eqb (dateOf (fieldValue (kindAt mode 1) 0x35 joined) .0) 0))
     ∷ [])
 

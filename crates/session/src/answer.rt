@@ -1,9 +1,9 @@
 // Answer: the card's answer to the outstanding command.
 use crate::state::Answered;
 use crate::state::Next;
-use crate::state::Progress;
 use crate::state::Reply;
 use crate::state::Session;
+use crate::state::SessionProgress;
 use crate::store;
 use crate::tables;
 use card::command;
@@ -14,8 +14,8 @@ ghost use Prim.Native.Nat.{_+_, _≤_, _<_, _^_};
 ghost use lib.ListN.{length};
 ghost use Rattle.session.specs.Tables.{objectSize, isResponse, isOther, isMore, ruleCause};
 ghost use Rattle.session.specs.Ranges.{inRange};
-ghost use Rattle.session.specs.Operation.{replyNumber, given, withProgress, ended, more, answerRefusal, causeIn, appendedSession, takenSession, takenBuffer, answerOf, answerBuffer};
-ghost use Rattle.session.specs.Promise.{AnswerKept};
+ghost use Rattle.session.specs.Operation.{replyNumber, given, withSessionProgress, progressStopped, progressContinued, answerRefusal, causeIn, appendedSession, answerTakenSession, answerTakenBuffer, answerOf, answerBuffer};
+ghost use Rattle.session.specs.Promise.{AnswerPromise};
 
 fn is_response(next: Next) -> bool
     ensures { λ r. ⌜ r ≡ isResponse next ⌝ }
@@ -83,8 +83,8 @@ impl Session {
     }
 
     // A cause ends the reading.
-    pub(crate) fn ended(self, cause: u8, sw1: u8, sw2: u8) -> Session
-        ensures { λ r. ⌜ r ≡ withProgress self (ended (self .progress) cause sw1 sw2) ⌝ }
+    pub(crate) fn stopped(self, cause: u8, sw1: u8, sw2: u8) -> Session
+        ensures { λ r. ⌜ r ≡ withSessionProgress self (progressStopped (self .progress) cause sw1 sw2) ⌝ }
     {
         let mut s = self;
         s.progress.outstanding = false;
@@ -95,12 +95,12 @@ impl Session {
     }
 
     // More data is to be asked for, n bytes being appended.
-    fn with_more(self, n: usize, second: u8) -> Session
+    fn continued(self, n: usize, second: u8) -> Session
         requires { ⌜ self .progress .filled + n < 2 ^ 64 ⌝ }
-        ensures { λ r. ⌜ r ≡ withProgress self (more (self .progress) n second) ⌝ }
+        ensures { λ r. ⌜ r ≡ withSessionProgress self (progressContinued (self .progress) n second) ⌝ }
     {
         let p = self.progress;
-        let progress = Progress {
+        let progress = SessionProgress {
             step: p.step,
             filled: p.filled + n,
             outstanding: false,
@@ -131,16 +131,22 @@ impl Session {
     {
         match status {
             Status::Done => self.judge(joined, cancelled),
-            Status::More(second) => self.with_more(n, second),
+            Status::More(second) => self.continued(n, second),
             Status::Other => self.judge(joined, cancelled),
         }
     }
 
     // An answer that is accepted: the first rule that fits. The part of the object buffer from the step's base plus filled on is lent on for appending.
-    fn take(self, object: &mut [u8], bytes: &[u8], status: &[u8], cancelled: &[u64]) -> Session
+    fn take_answer(
+        self,
+        object: &mut [u8],
+        bytes: &[u8],
+        status: &[u8],
+        cancelled: &[u64],
+    ) -> Session
         requires { ⌜ (length (now object) ≡ objectSize) × (length (now bytes) ≤ 256) × (length (now status) ≡ 2) × (self .progress .filled ≤ 4096) ⌝ }
-        ensures { λ r. ⌜ r ≡ takenSession self (now (object .entry)) (now (bytes .entry)) (now (status .entry)) (now (cancelled .entry)) ⌝ }
-        ensures { λ r. ⌜ now (object .exit) ≡ takenBuffer self (now (object .entry)) (now (bytes .entry)) (now (status .entry)) ⌝ }
+        ensures { λ r. ⌜ r ≡ answerTakenSession self (now (object .entry)) (now (bytes .entry)) (now (status .entry)) (now (cancelled .entry)) ⌝ }
+        ensures { λ r. ⌜ now (object .exit) ≡ answerTakenBuffer self (now (object .entry)) (now (bytes .entry)) (now (status .entry)) ⌝ }
     {
         let n = bytes.len();
         let word = command::status_of(status);
@@ -154,21 +160,21 @@ impl Session {
             return self.appended(word, &object[base..end], n, cancelled);
         }
         if cause == 16 {
-            return self.ended(cause, status[0], status[1]);
+            return self.stopped(cause, status[0], status[1]);
         }
-        self.ended(cause, 0, 0)
+        self.stopped(cause, 0, 0)
     }
 
     // The answer's data is appended in the object buffer, and judged where it is the step's last.
     pub fn answer(self, object: &mut [u8], answer: &[u8], cancelled: &[u64]) -> Answered
         ensures { λ r. ⌜ given r ≡ answerOf self (now (object .entry)) (now (answer .entry)) (now (cancelled .entry)) ⌝ }
         ensures { λ r. ⌜ now (object .exit) ≡ answerBuffer self (now (object .entry)) (now (answer .entry)) ⌝ }
-        ensures for_every_list { λ r. ⌜ AnswerKept self (now (object .entry)) (now (answer .entry)) (now (cancelled .entry)) (now (object .exit)) r ⌝ }
+        ensures for_every_list { λ r. ⌜ AnswerPromise self (now (object .entry)) (now (answer .entry)) (now (cancelled .entry)) (now (object .exit)) r ⌝ }
     {
         let reply = self.answer_refusal(object.len(), answer.len());
         if reply.number() == 0 {
             let n = answer.len() - 2;
-            let session = self.take(object, &answer[..n], &answer[n..], cancelled);
+            let session = self.take_answer(object, &answer[..n], &answer[n..], cancelled);
             return Answered { session, reply };
         }
         Answered {

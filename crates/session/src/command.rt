@@ -16,8 +16,8 @@ ghost use Rattle.card.specs.Refusal.{refusalOf};
 ghost use Rattle.card.specs.Command as card-command;
 ghost use Rattle.session.specs.Condition.{nothingToSend};
 ghost use Rattle.session.specs.Ranges.{inRange};
-ghost use Rattle.session.specs.Operation.{commandGiven, commandIn, sent, withProgress, commandOf, commandBuffer};
-ghost use Rattle.session.specs.Promise.{CommandKept};
+ghost use Rattle.session.specs.Operation.{commandGiven, commandIn, progressSending, withSessionProgress, commandOf, commandBuffer};
+ghost use Rattle.session.specs.Promise.{CommandPromise};
 
 impl Session {
     // Whether there is nothing to send: step 3, a cause of 16 to 22, or a command outstanding.
@@ -30,20 +30,20 @@ impl Session {
     // The next command, written to the front of out where it fits.
     fn write_command(self, out: &mut [u8]) -> CommandAnswer
         requires { ⌜ inRange self ≡ true ⌝ }
-        ensures { λ r. ⌜ (card-command.commandAnswer r, now (out .exit)) ≡ card-command.commandOf (refusalOf ((6, card-command.tooShort (now (out .entry)) (commandIn self)) ∷ [])) (commandIn self) (now (out .entry)) ⌝ }
+        ensures { λ r. ⌜ (card-command.commandAnswer r, now (out .exit)) ≡ card-command.commandWritten (refusalOf ((6, card-command.tooShort (now (out .entry)) (commandIn self)) ∷ [])) (commandIn self) (now (out .entry)) ⌝ }
     {
-        let setting = self.setting;
+        let opening = self.opening;
         let progress = self.progress;
         let next = progress.next;
         match next {
             Next::Initial => {
                 if progress.step == 0 {
-                    let aid = setting.aid;
-                    let n = setting.aid_len;
+                    let aid = opening.aid;
+                    let n = opening.aid_len;
                     store::sized_16(aid);
                     return command::select(&aid[..n], out);
                 }
-                command::get_data(tables::kind_at(setting.mode, progress.step), out)
+                command::get_data(tables::kind_at(opening.mode, progress.step), out)
             }
             Next::GetResponse(second) => command::get_response(second, out),
         }
@@ -51,7 +51,7 @@ impl Session {
 
     // The session once a command is written, or refused.
     fn sent_by(self, written: CommandAnswer) -> Commanded
-        ensures { λ r. ⌜ commandGiven r ≡ cond (eqb (card-command.commandNumber written) 0) (0, card-command.commandAnswer written .1, withProgress self (sent (self .progress))) (card-command.commandNumber written, 0, self) ⌝ }
+        ensures { λ r. ⌜ commandGiven r ≡ cond (eqb (card-command.commandNumber written) 0) (0, card-command.commandAnswer written .1, withSessionProgress self (progressSending (self .progress))) (card-command.commandNumber written, 0, self) ⌝ }
     {
         match written {
             CommandAnswer::Written(count) => {
@@ -80,7 +80,7 @@ impl Session {
     pub fn command(self, out: &mut [u8]) -> Commanded
         ensures { λ r. ⌜ commandGiven r ≡ commandOf self (length (now (out .entry))) ⌝ }
         ensures { λ r. ⌜ now (out .exit) ≡ commandBuffer self (now (out .entry)) ⌝ }
-        ensures for_every_list { λ r. ⌜ CommandKept self (now (out .entry)) (now (out .exit)) r ⌝ }
+        ensures for_every_list { λ r. ⌜ CommandPromise self (now (out .entry)) (now (out .exit)) r ⌝ }
     {
         if self.values().out_of_range() {
             return Commanded {

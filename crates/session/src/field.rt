@@ -6,7 +6,7 @@ use card::object::FIELDS;
 use card::object::Part;
 ghost use mathlib.Core.Path.{_≡_};
 ghost use Rattle.session.specs.Operation.{partsAt, partFor, fieldOf};
-ghost use Rattle.session.specs.Promise.{FieldKept};
+ghost use Rattle.session.specs.Promise.{FieldPromise};
 
 impl Session {
     // The parts of a step's object.
@@ -14,7 +14,7 @@ impl Session {
         ensures { λ r. ⌜ r ≡ partsAt (self .card) step ⌝ }
     {
         let card = self.card;
-        if step == 2 { card.second } else { card.first }
+        if step == 2 { card.step2 } else { card.step1 }
     }
 
     // Where the field with a tag lies in its step's data.
@@ -22,14 +22,14 @@ impl Session {
         ensures { λ r. ⌜ r ≡ partFor self step tag ⌝ }
     {
         let parts = self.parts_at(step);
-        object::part_of(tables::kind_at(self.setting.mode, step), parts, tag)
+        object::part_of(tables::kind_at(self.opening.mode, step), parts, tag)
     }
 
     // The value of the field with tag 30, 34, 35, 3E or BC; the empty part where the session is dead or out of range, the buffer has another size, the tag is another, or
     // the field is not yet read or absent.
     pub fn field<'a>(self, object: &'a [u8], tag: u8) -> &'a [u8]
         ensures { λ r. ⌜ now r ≡ fieldOf self (now (object .entry)) tag ⌝ }
-        ensures for_every_list { λ r. ⌜ FieldKept self (now (object .entry)) tag (now r) ⌝ }
+        ensures for_every_list { λ r. ⌜ FieldPromise self (now (object .entry)) tag (now r) ⌝ }
     {
         let step = tables::step_of_tag(tag);
         if self.values().out_of_range() | (object.len() != 8192) {

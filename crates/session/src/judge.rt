@@ -20,8 +20,8 @@ ghost use lib.ListN.{length};
 ghost use Rattle.card.specs.Fascn.{keyOf};
 ghost use Rattle.card.specs.Object.{objectOf, fieldValue};
 ghost use Rattle.card.specs.Date.{dateAnswer};
-ghost use Rattle.session.specs.Tables.{expiryOutcome, listed, listOutcome, kindAt, withOutcome, fascnIn};
-ghost use Rattle.session.specs.Operation.{secondRead, judgedSession};
+ghost use Rattle.session.specs.Tables.{expiryOutcome, listed, listOutcome, kindAt, withOutcome, fascnRead};
+ghost use Rattle.session.specs.Operation.{step2EndSession, judgedSession};
 
 // The number that a date spells, 0 where it is none.
 fn date_number(d: Date) -> u32
@@ -94,46 +94,46 @@ impl Session {
         let cause = answer.number();
         if cause == 0 {
             let mut s = self;
-            let progress = open::begin(1);
+            let progress = open::at_step(1);
             s.progress = progress;
             return s;
         }
-        self.ended(cause, 0, 0)
+        self.stopped(cause, 0, 0)
     }
 
     // Step 1's object is good: its FASC-N and its date are judged, and checks 3 and 4 set.
-    fn judge_first(self, parts: [Part; FIELDS], joined: &[u8], cancelled: &[u64]) -> Session
-        requires { ⌜ (self .progress .step ≡ 1) × (objectOf (kindAt (self .setting .mode) 1) (now joined) ≡ (0, parts)) ⌝ }
+    fn judge_step1(self, parts: [Part; FIELDS], joined: &[u8], cancelled: &[u64]) -> Session
+        requires { ⌜ (self .progress .step ≡ 1) × (objectOf (kindAt (self .opening .mode) 1) (now joined) ≡ (0, parts)) ⌝ }
         ensures { λ r. ⌜ r ≡ judgedSession self (now (joined .entry)) (now (cancelled .entry)) ⌝ }
     {
-        let setting = self.setting;
-        let kind = tables::kind_at(setting.mode, 1);
+        let opening = self.opening;
+        let kind = tables::kind_at(opening.mode, 1);
         let bytes = value(kind, parts, joined, 0x30);
         let unpacked = fascn::unpack(bytes);
         let well = unpacked.answer;
         if well.number() != 0 {
-            return self.ended(21, 0, 0);
+            return self.stopped(21, 0, 0);
         }
         let date = date::read(value(kind, parts, joined, 0x35));
         if date.number() != 0 {
-            return self.ended(22, 0, 0);
+            return self.stopped(22, 0, 0);
         }
         let expiry = date_number(date);
         let digits = unpacked.digits;
         let key = fascn::key_of(digits);
         let before = self.outcomes;
-        let outcomes = judged_outcomes(before, setting.date, expiry, key, cancelled);
+        let outcomes = judged_outcomes(before, opening.date, expiry, key, cancelled);
         let fascn = store::array_25(bytes);
-        let progress = open::begin(tables::step_after(setting.mode, 1));
-        let second = self.card.second;
+        let progress = open::at_step(tables::step_after(opening.mode, 1));
+        let step2 = self.card.step2;
         let card = Card {
             fascn,
             expiry,
-            first: parts,
-            second,
+            step1: parts,
+            step2,
         };
         Session {
-            setting,
+            opening,
             progress,
             outcomes,
             card,
@@ -141,12 +141,12 @@ impl Session {
     }
 
     // Step 2's object is good.
-    fn judge_second(self, parts: [Part; FIELDS]) -> Session
-        ensures { λ r. ⌜ r ≡ secondRead self parts ⌝ }
+    fn judge_step2(self, parts: [Part; FIELDS]) -> Session
+        ensures { λ r. ⌜ r ≡ step2EndSession self parts ⌝ }
     {
-        let progress = open::begin(3);
+        let progress = open::at_step(3);
         let mut card = self.card;
-        card.second = parts;
+        card.step2 = parts;
         let mut s = self;
         s.progress = progress;
         s.card = card;
@@ -161,16 +161,16 @@ impl Session {
         if step == 0 {
             return self.judge_template(joined, cancelled);
         }
-        let kind = tables::kind_at(self.setting.mode, step);
+        let kind = tables::kind_at(self.opening.mode, step);
         let object = object::parse(kind, joined);
         let answer = object.answer;
         if answer.number() != 0 {
-            return self.ended(20, 0, 0);
+            return self.stopped(20, 0, 0);
         }
         let parts = object.parts;
         if step == 1 {
-            return self.judge_first(parts, joined, cancelled);
+            return self.judge_step1(parts, joined, cancelled);
         }
-        self.judge_second(parts)
+        self.judge_step2(parts)
     }
 }

@@ -3,10 +3,10 @@ use crate::state::Answered;
 use crate::state::CHECKS;
 use crate::state::Card;
 use crate::state::Next;
-use crate::state::Progress;
 use crate::state::Reply;
 use crate::state::Session;
-use crate::state::Setting;
+use crate::state::SessionOpening;
+use crate::state::SessionProgress;
 use crate::store;
 use crate::tables;
 use card::date;
@@ -15,16 +15,16 @@ use card::object::Part;
 ghost use mathlib.Core.Path.{_≡_};
 ghost use Prim.Native.Nat.{_≤_};
 ghost use lib.ListN.{length};
-ghost use Rattle.session.specs.Operation.{replyNumber, given, begun, noCard, dead, opened, openRefusal, openOf};
-ghost use Rattle.session.specs.Promise.{OpenKept};
+ghost use Rattle.session.specs.Operation.{replyNumber, given, progressAtStep, noCard, dead, opened, openRefusal, openOf};
+ghost use Rattle.session.specs.Promise.{OpenPromise};
 
 const EMPTY: Part = Part { start: 0, len: 0 };
 
 // A step begins.
-pub(crate) fn begin(step: u8) -> Progress
-    ensures { λ r. ⌜ r ≡ begun step ⌝ }
+pub(crate) fn at_step(step: u8) -> SessionProgress
+    ensures { λ r. ⌜ r ≡ progressAtStep step ⌝ }
 {
-    Progress {
+    SessionProgress {
         step,
         filled: 0,
         outstanding: false,
@@ -41,8 +41,8 @@ fn no_card() -> Card
     Card {
         fascn: [0; 25],
         expiry: 0,
-        first: [EMPTY; FIELDS],
-        second: [EMPTY; FIELDS],
+        step1: [EMPTY; FIELDS],
+        step2: [EMPTY; FIELDS],
     }
 }
 
@@ -50,16 +50,16 @@ fn no_card() -> Card
 pub fn dead_session() -> Session
     ensures { λ r. ⌜ r ≡ dead ⌝ }
 {
-    let setting = Setting {
+    let opening = SessionOpening {
         mode: 0,
         date: 0,
         aid: [0; 16],
         aid_len: 0,
     };
-    let progress = begin(0);
+    let progress = at_step(0);
     let card = no_card();
     Session {
-        setting,
+        opening,
         progress,
         outcomes: [0; CHECKS],
         card,
@@ -87,17 +87,17 @@ fn opened(mode: u8, date: u32, aid: &[u8]) -> Session
     ensures { λ r. ⌜ r ≡ opened mode date (now (aid .entry)) ⌝ }
 {
     let bytes = store::array_16(aid);
-    let setting = Setting {
+    let opening = SessionOpening {
         mode,
         date,
         aid: bytes,
         aid_len: aid.len(),
     };
-    let progress = begin(0);
+    let progress = at_step(0);
     let outcomes = tables::needed_outcomes(mode);
     let card = no_card();
     Session {
-        setting,
+        opening,
         progress,
         outcomes,
         card,
@@ -107,7 +107,7 @@ fn opened(mode: u8, date: u32, aid: &[u8]) -> Session
 // A session freshly opened; the dead session where the opening is refused.
 pub fn open(mode: u8, date: u32, aid: &[u8]) -> Answered
     ensures { λ r. ⌜ given r ≡ openOf mode date (now (aid .entry)) ⌝ }
-    ensures for_every_list { λ r. ⌜ OpenKept mode date (now (aid .entry)) r ⌝ }
+    ensures for_every_list { λ r. ⌜ OpenPromise mode date (now (aid .entry)) r ⌝ }
 {
     let reply = open_refusal(mode, date, aid);
     if reply.number() == 0 {

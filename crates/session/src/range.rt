@@ -50,7 +50,7 @@ fn expiry_in_range(n: u32) -> bool
     date::real(n)
 }
 
-// The values that have ranges; `inside` says that the field parts are inside. They are few, so that a call hands these on, and not the whole session, for
+// The values that have ranges; `inside` yes that the field parts are inside. They are few, so that a call hands these on, and not the whole session, for
 // its test: a session that is handed to a function is copied.
 pub(crate) struct Values {
     pub date: u32,
@@ -71,14 +71,14 @@ impl Values {
         ensures { λ r. ⌜ r ≡ not (valuesInRange self) ⌝ }
     {
         let o = self.outcomes;
-        let setting = (tables::good_mode(self.mode) & date::real(self.date))
+        let opening = (tables::good_mode(self.mode) & date::real(self.date))
             & ((5 <= self.aid_len) & (self.aid_len <= 16));
         let cause = (self.cause == 0) | tables::ends(self.cause);
         let step = (self.step <= 3) & (!(self.step == 2) | ((self.mode == 3) | (self.mode == 4)));
         let turn = !self.outstanding | ((self.step <= 2) & (self.cause == 0));
         let progress = (step & (self.filled <= 4096)) & (cause & turn);
         let card = expiry_in_range(self.expiry) & self.inside;
-        !((setting & progress) & (outcomes_in_range(o) & card))
+        !((opening & progress) & (outcomes_in_range(o) & card))
     }
 }
 
@@ -86,19 +86,19 @@ impl Session {
     pub(crate) fn values(self) -> Values
         ensures { λ r. ⌜ r ≡ valuesOf self ⌝ }
     {
-        let setting = self.setting;
+        let opening = self.opening;
         let p = self.progress;
         let outcomes = self.outcomes;
         let card = self.card;
-        let first = card.first;
-        let second = card.second;
-        let inside = parts_inside(0, first) & parts_inside(4096, second);
+        let step1 = card.step1;
+        let step2 = card.step2;
+        let inside = parts_inside(0, step1) & parts_inside(4096, step2);
         Values {
-            date: setting.date,
+            date: opening.date,
             expiry: card.expiry,
-            aid_len: setting.aid_len,
+            aid_len: opening.aid_len,
             filled: p.filled,
-            mode: setting.mode,
+            mode: opening.mode,
             step: p.step,
             cause: p.cause,
             outstanding: p.outstanding,

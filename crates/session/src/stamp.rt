@@ -7,10 +7,10 @@ use crate::tables;
 ghost use mathlib.Core.Path.{_≡_};
 ghost use Prim.Native.Nat.{_≤_};
 ghost use lib.ListN.{length};
-ghost use Rattle.card.specs.Range.{front};
+ghost use Rattle.card.specs.Lists.{overFront};
 ghost use Rattle.session.specs.Tables.{statusShown, fourBytes, stampSize};
 ghost use Rattle.session.specs.Operation.{replyNumber, given, stampRefusal, stampHead, stampIn, stampAnswer, stampBuffer};
-ghost use Rattle.session.specs.Promise.{StampKept};
+ghost use Rattle.session.specs.Promise.{StampPromise};
 
 // A number of four bytes, high byte first.
 fn four_bytes(n: u32) -> [u8; 4]
@@ -48,7 +48,7 @@ impl Session {
     fn stamp_head(self) -> [u8; 6]
         ensures { λ r. ⌜ r ≡ stampHead self ⌝ }
     {
-        let mode = self.setting.mode;
+        let mode = self.opening.mode;
         let p = self.progress;
         let outcomes = self.outcomes;
         let cause = tables::cause_of(p.cause, outcomes);
@@ -60,14 +60,14 @@ impl Session {
 
     fn write_stamp(self, out: &mut [u8])
         requires { ⌜ stampSize ≤ length (now out) ⌝ }
-        ensures { λ r. ⌜ now (out .exit) ≡ front (stampIn self) (now (out .entry)) ⌝ }
+        ensures { λ r. ⌜ now (out .exit) ≡ overFront (stampIn self) (now (out .entry)) ⌝ }
     {
         let head = self.stamp_head();
-        let setting = self.setting;
+        let opening = self.opening;
         let card = self.card;
         let outcomes = self.outcomes;
         let fascn = card.fascn;
-        let date = four_bytes(setting.date);
+        let date = four_bytes(opening.date);
         let expiry = four_bytes(card.expiry);
         store::sized_6(outcomes);
         store::sized_25(fascn);
@@ -82,7 +82,7 @@ impl Session {
     pub fn stamp(self, out: &mut [u8]) -> Answered
         ensures { λ r. ⌜ given r ≡ stampAnswer self (length (now (out .entry))) ⌝ }
         ensures { λ r. ⌜ now (out .exit) ≡ stampBuffer self (now (out .entry)) ⌝ }
-        ensures for_every_list { λ r. ⌜ StampKept self (now (out .entry)) (now (out .exit)) r ⌝ }
+        ensures for_every_list { λ r. ⌜ StampPromise self (now (out .entry)) (now (out .exit)) r ⌝ }
     {
         let reply = self.stamp_refusal(out.len());
         if reply.number() == 0 {

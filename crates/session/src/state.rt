@@ -14,7 +14,7 @@ pub enum Next {
 }
 
 // What the opening gave: mode, date as the number YYYYMMDD, and the AID, the first `aid_len` bytes.
-pub struct Setting {
+pub struct SessionOpening {
     pub mode: u8,
     pub date: u32,
     pub aid: [u8; 16],
@@ -23,7 +23,7 @@ pub struct Setting {
 
 // Where the reading of the card stands: the step, how many bytes of its data are in the object buffer, whether a command is outstanding, the next command, and the
 // cause (16 to 22, or 0) with the status word of the answer that gave cause 16.
-pub struct Progress {
+pub struct SessionProgress {
     pub step: u8,
     pub filled: usize,
     pub outstanding: bool,
@@ -37,14 +37,14 @@ pub struct Progress {
 pub struct Card {
     pub fascn: [u8; 25],
     pub expiry: u32,
-    pub first: [Part; FIELDS],
-    pub second: [Part; FIELDS],
+    pub step1: [Part; FIELDS],
+    pub step2: [Part; FIELDS],
 }
 
 // A session. Outcomes stand in the order of the checks: 0 unneeded, 1 awaited, 2 passed, 3 failed, 4 other card.
 pub struct Session {
-    pub setting: Setting,
-    pub progress: Progress,
+    pub opening: SessionOpening,
+    pub progress: SessionProgress,
     pub outcomes: [u8; CHECKS],
     pub card: Card,
 }

@@ -2,12 +2,12 @@
 ghost use mathlib.Core.Path.{_≡_};
 ghost use Prim.Native.Nat.{_+_, _≤_};
 ghost use lib.ListN.{length, replicate};
-ghost use Rattle.card.specs.Range.{front, stored};
+ghost use Rattle.card.specs.Lists.{overFront, overPlaces};
 
 // The bytes s over the front of out.
 fn put(out: &mut [u8], s: &[u8])
     requires { ⌜ length (now s) ≤ length (now out) ⌝ }
-    ensures { λ r. ⌜ now (out .exit) ≡ front (now (s .entry)) (now (out .entry)) ⌝ }
+    ensures { λ r. ⌜ now (out .exit) ≡ overFront (now (s .entry)) (now (out .entry)) ⌝ }
 {
     for i in 0..s.len() {
         out[i] = s[i];
@@ -17,7 +17,7 @@ fn put(out: &mut [u8], s: &[u8])
 // The bytes s stored in out from place `at` on: the part of out that begins there is lent on.
 pub(crate) fn store(out: &mut [u8], at: usize, s: &[u8])
     requires { ⌜ at + length (now s) ≤ length (now out) ⌝ }
-    ensures { λ r. ⌜ now (out .exit) ≡ stored (now (out .entry)) at (now (s .entry)) ⌝ }
+    ensures { λ r. ⌜ now (out .exit) ≡ overPlaces (now (out .entry)) at (now (s .entry)) ⌝ }
 {
     put(&mut out[at..], s);
 }
@@ -25,7 +25,7 @@ pub(crate) fn store(out: &mut [u8], at: usize, s: &[u8])
 // The bytes s as an array, zeros after them.
 pub(crate) fn array_16(s: &[u8]) -> [u8; 16]
     requires { ⌜ length (now s) ≤ 16 ⌝ }
-    ensures { λ r. ⌜ r ≡ front (now (s .entry)) (replicate 16 0) ⌝ }
+    ensures { λ r. ⌜ r ≡ overFront (now (s .entry)) (replicate 16 0) ⌝ }
 {
     let mut a = [0u8; 16];
     put(&mut a, s);

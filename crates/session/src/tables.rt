@@ -3,7 +3,7 @@ use crate::state::CHECKS;
 use card::object::Kind;
 ghost use mathlib.Core.Path.{_≡_};
 ghost use Prim.Native.Nat.{_≤_, _<_};
-ghost use Rattle.session.specs.Tables.{checks, goodMode, goodKind, needs, checkOf, neededAt, neededOutcomes, outcomeOf, withOutcome, lowestFrom, causeOf, allPassed, standingOf, ends, kindAt, stepAfter, baseOf, stepOfTag};
+ghost use Rattle.session.specs.Tables.{checks, goodMode, goodKind, needs, checkServed, neededAt, neededOutcomes, outcomeOf, withOutcome, lowestFrom, causeOf, allPassed, standingOf, ends, kindAt, stepAfter, baseOf, stepOfTag};
 
 pub(crate) fn good_mode(mode: u8) -> bool
     ensures { λ r. ⌜ r ≡ goodMode mode ⌝ }
@@ -35,7 +35,7 @@ pub(crate) fn needs(mode: u8, check: u8) -> bool
 
 // The check that a verdict kind serves.
 pub(crate) fn check_of(kind: u8) -> u8
-    ensures is { λ r. ⌜ r ≡ checkOf kind ⌝ }
+    ensures is { λ r. ⌜ r ≡ checkServed kind ⌝ }
     ensures place { λ r. ⌜ (1 ≤ r) × (r ≤ checks) ⌝ }
 {
     if kind == 1 {

@@ -7,22 +7,22 @@ use card::bytes;
 use card::fascn;
 ghost use mathlib.Core.Path.{_≡_};
 ghost use Rattle.session.specs.Tables.{verdictOutcome};
-ghost use Rattle.session.specs.Operation.{replyNumber, given, verdictRefusal, heardSession, verdictOf};
-ghost use Rattle.session.specs.Promise.{VerdictKept};
+ghost use Rattle.session.specs.Operation.{replyNumber, given, verdictRefusal, verdictTakenSession, verdictOf};
+ghost use Rattle.session.specs.Promise.{VerdictPromise};
 
 // 3 for a no; 2 for a yes on the card's own bytes, 4 for a yes on others.
-fn verdict_outcome(own: &[u8], says: u8, fascn: &[u8]) -> u8
-    ensures { λ r. ⌜ r ≡ verdictOutcome (now (own .entry)) says (now (fascn .entry)) ⌝ }
+fn verdict_outcome(own: &[u8], yes: u8, fascn: &[u8]) -> u8
+    ensures { λ r. ⌜ r ≡ verdictOutcome (now (own .entry)) yes (now (fascn .entry)) ⌝ }
 {
-    if says == 0 {
+    if yes == 0 {
         return 3;
     }
     if fascn::equal(fascn, own) { 2 } else { 4 }
 }
 
 impl Session {
-    fn verdict_refusal(self, kind: u8, says: u8, fascn: &[u8]) -> Reply
-        ensures { λ r. ⌜ replyNumber r ≡ verdictRefusal self kind says (now (fascn .entry)) ⌝ }
+    fn verdict_refusal(self, kind: u8, yes: u8, fascn: &[u8]) -> Reply
+        ensures { λ r. ⌜ replyNumber r ≡ verdictRefusal self kind yes (now (fascn .entry)) ⌝ }
     {
         if self.values().out_of_range() {
             return Reply::OutOfRange;
@@ -33,7 +33,7 @@ impl Session {
         if !tables::good_kind(kind) {
             return Reply::UnknownKind;
         }
-        if !(says <= 1) {
+        if !(yes <= 1) {
             return Reply::UnknownVerdict;
         }
         let unpacked = fascn::unpack(fascn);
@@ -42,7 +42,7 @@ impl Session {
             return Reply::WrongFascn;
         }
         let check = tables::check_of(kind);
-        if !tables::needs(self.setting.mode, check) {
+        if !tables::needs(self.opening.mode, check) {
             return Reply::NotNeeded;
         }
         let outcomes = self.outcomes;
@@ -53,12 +53,12 @@ impl Session {
     }
 
     // The outcome of the verdict's check is set.
-    fn heard(self, kind: u8, says: u8, fascn: &[u8]) -> Session
-        ensures { λ r. ⌜ r ≡ heardSession self kind says (now (fascn .entry)) ⌝ }
+    fn take_verdict(self, kind: u8, yes: u8, fascn: &[u8]) -> Session
+        ensures { λ r. ⌜ r ≡ verdictTakenSession self kind yes (now (fascn .entry)) ⌝ }
     {
         let card = self.card;
         let own = card.fascn;
-        let outcome = verdict_outcome(&own, says, fascn);
+        let outcome = verdict_outcome(&own, yes, fascn);
         let before = self.outcomes;
         let check = tables::check_of(kind);
         let outcomes = tables::with_outcome(before, check, outcome);
@@ -68,13 +68,13 @@ impl Session {
     }
 
     // The host's verdict: kind 1 to 4, no (0) or yes (1), and the 25 bytes of the FASC-N that it is on.
-    pub fn verdict(self, kind: u8, says: u8, fascn: &[u8]) -> Answered
-        ensures { λ r. ⌜ given r ≡ verdictOf self kind says (now (fascn .entry)) ⌝ }
-        ensures for_every_list { λ r. ⌜ VerdictKept self kind says (now (fascn .entry)) r ⌝ }
+    pub fn verdict(self, kind: u8, yes: u8, fascn: &[u8]) -> Answered
+        ensures { λ r. ⌜ given r ≡ verdictOf self kind yes (now (fascn .entry)) ⌝ }
+        ensures for_every_list { λ r. ⌜ VerdictPromise self kind yes (now (fascn .entry)) r ⌝ }
     {
-        let reply = self.verdict_refusal(kind, says, fascn);
+        let reply = self.verdict_refusal(kind, yes, fascn);
         if reply.number() == 0 {
-            let session = self.heard(kind, says, fascn);
+            let session = self.take_verdict(kind, yes, fascn);
             return Answered { session, reply };
         }
         Answered {

@@ -10,9 +10,9 @@ use borrow.Author.Tests.{leb-true, ltb-true, ltb-false, eqb-true, eqb-false, lt-
 use lib.Dec.{eqb, leb, ltb, lit<}
 use lib.ListN.{length, getD, take, List·getD-eq-default}
 use lib.Seq.{take-at}
-use Rattle.card.specs.Range.{listOf, all, written, front}
-use Rattle.card.proofs.RangeLaws.{all-at, all-of, length-listOf, getD-listOf, listOf-is}
-use Rattle.text.specs.Hex.{digitValue, isHex, byteAt, bytesIn, hexDigit, digitAt, hexOf}
+use Rattle.card.specs.Lists.{listOf, all, written, overFront}
+use Rattle.card.proofs.ListsLaws.{all-at, all-of, length-listOf, getD-listOf, listOf-is}
+use Rattle.text.specs.Hex.{digitValue, isHex, byteAt, bytesIn, hexDigit, hexDigitAt, hexOf}
 
 -- ---- digits
 
@@ -76,17 +76,17 @@ bytes-small s i = by (ltb i (length s / 2)) refl
 
 pub length-hex : (s : List ℕ) → length (hexOf s) ≡ 2 * length s
 unfolding hexOf
-length-hex s = length-listOf (2 * length s) (digitAt s)
+length-hex s = length-listOf (2 * length s) (hexDigitAt s)
 
-hex-in : (s : List ℕ) (i : ℕ) → i < 2 * length s → getD (hexOf s) i 0 ≡ digitAt s i
+hex-in : (s : List ℕ) (i : ℕ) → i < 2 * length s → getD (hexOf s) i 0 ≡ hexDigitAt s i
 unfolding hexOf
-hex-in s i h = getD-listOf (2 * length s) (digitAt s) i h
+hex-in s i h = getD-listOf (2 * length s) (hexDigitAt s) i h
 
 -- ---- written, then read
 
 -- a digit written is a digit
-at-value : (s : List ℕ) (i : ℕ) → digitValue (digitAt s i) < 16
-unfolding digitAt
+at-value : (s : List ℕ) (i : ℕ) → digitValue (hexDigitAt s i) < 16
+unfolding hexDigitAt
 at-value s i = by (eqb (i % 2) 0) (getD s (i / 2) 0 / 16) (getD s (i / 2) 0)
   where
     by : (b : Bool) (x y : ℕ) → digitValue (cond b (hexDigit x) (hexDigit y)) < 16
@@ -103,12 +103,12 @@ hex-is-hex s =
     )
 
 -- the digits of byte i, the higher and the lower
-high : (s : List ℕ) (i : ℕ) → digitAt s (2 * i) ≡ hexDigit (getD s i 0 / 16)
-unfolding digitAt
+high : (s : List ℕ) (i : ℕ) → hexDigitAt s (2 * i) ≡ hexDigit (getD s i 0 / 16)
+unfolding hexDigitAt
 high s i = let e : 2 * i / 2 ≡ i = omega arith in rw (eq-eqb (2 * i % 2) 0 (omega arith), e)
 
-low : (s : List ℕ) (i : ℕ) → digitAt s (2 * i + 1) ≡ hexDigit (getD s i 0)
-unfolding digitAt
+low : (s : List ℕ) (i : ℕ) → hexDigitAt s (2 * i + 1) ≡ hexDigit (getD s i 0)
+unfolding hexDigitAt
 low s i = let e : (2 * i + 1) / 2 ≡ i = omega arith in rw (ne-eqb ((2 * i + 1) % 2) 0 (λ z. omega arith), e)
 
 -- what is written is read back
@@ -130,7 +130,7 @@ bytes-hex s small =
 -- what is read is written back
 pub hex-bytes : (s : List ℕ) → isHex s ≡ true → hexOf (bytesIn s) ≡ s
 unfolding isHex hexOf byteAt
-hex-bytes s p = listOf-is (2 * length (bytesIn s)) (digitAt (bytesIn s)) s even (λ i h. digit i (eqb (i % 2) 0) refl (omega (arith, h, length-bytes s)))
+hex-bytes s p = listOf-is (2 * length (bytesIn s)) (hexDigitAt (bytesIn s)) s even (λ i h. digit i (eqb (i % 2) 0) refl (omega (arith, h, length-bytes s)))
   where
     tests : (all (length s) (λ i. ltb (digitValue (getD s i 0)) 16) ≡ true) × (eqb (length s % 2) 0 ≡ true)
     tests = and-eq-true-iff (all (length s) (λ i. ltb (digitValue (getD s i 0)) 16)) (eqb (length s % 2) 0) .0 p
@@ -142,17 +142,17 @@ hex-bytes s p = listOf-is (2 * length (bytesIn s)) (digitAt (bytesIn s)) s even 
     again i h =
         value-digit (getD s i 0) (ltb-true (digitValue (getD s i 0)) 16 (all-at (λ i. ltb (digitValue (getD s i 0)) 16) (length s) (tests .0) i h))
 
-    first : (i : ℕ) → i < length s / 2 → digitAt (bytesIn s) (2 * i) ≡ getD s (2 * i) 0
+    first : (i : ℕ) → i < length s / 2 → hexDigitAt (bytesIn s) (2 * i) ≡ getD s (2 * i) 0
     first i h =
         high (bytesIn s) i ∙ ap (λ (x : ℕ). hexDigit (x / 16)) (byte-in s i h) ∙ digit-high (digitValue (getD s (2 * i) 0)) (digitValue (getD s (2 * i + 1) 0))
         ∙ again (2 * i) (omega arith)
 
-    second : (i : ℕ) → i < length s / 2 → digitAt (bytesIn s) (2 * i + 1) ≡ getD s (2 * i + 1) 0
+    second : (i : ℕ) → i < length s / 2 → hexDigitAt (bytesIn s) (2 * i + 1) ≡ getD s (2 * i + 1) 0
     second i h =
         low (bytesIn s) i ∙ ap hexDigit (byte-in s i h) ∙ digit-low (digitValue (getD s (2 * i) 0)) (digitValue (getD s (2 * i + 1) 0))
         ∙ again (2 * i + 1) (omega arith)
 
-    digit : (i : ℕ) (b : Bool) → eqb (i % 2) 0 ≡ b → i < 2 * (length s / 2) → digitAt (bytesIn s) i ≡ getD s i 0
+    digit : (i : ℕ) (b : Bool) → eqb (i % 2) 0 ≡ b → i < 2 * (length s / 2) → hexDigitAt (bytesIn s) i ≡ getD s i 0
     digit i true p h =
         let e : 2 * (i / 2) ≡ i = omega (arith, eqb-true (i % 2) 0 p) in
         rw e at (first (i / 2) (omega arith))
@@ -167,6 +167,6 @@ pub front-bytes : (s out : List ℕ) → take (length s / 2) (written out 0 (len
 unfolding written bytesIn
 front-bytes s out = take-at (listOf (length s / 2) (byteAt s)) _ (length s / 2) (length-listOf (length s / 2) (byteAt s))
 
-pub front-hex : (s out : List ℕ) → written out 0 (2 * length s) (digitAt s) ≡ front (hexOf s) out
-unfolding written front hexOf
-front-hex s out = rw (zero-add, length-listOf (2 * length s) (digitAt s))
+pub front-hex : (s out : List ℕ) → written out 0 (2 * length s) (hexDigitAt s) ≡ overFront (hexOf s) out
+unfolding written overFront hexOf
+front-hex s out = rw (zero-add, length-listOf (2 * length s) (hexDigitAt s))

@@ -10,8 +10,8 @@ use borrow.Author.Tests.{eqb-true, le-leb, lt-leb}
 use lib.Dec.{eqb}
 use lib.ListN.{length, getD, take}
 use lib.Seq.{take-suc}
-use Rattle.card.specs.Range.{stored}
-use Rattle.text.specs.Place.{countBefore, storedWhere}
+use Rattle.card.specs.Lists.{overPlaces}
+use Rattle.text.specs.Place.{countBefore, overPlacesWhere}
 
 -- no byte is 0A
 abbrev pub NoEnd : List ℕ → Type 0
@@ -49,10 +49,10 @@ with-end s h =
 -- ---- bytes stored from a place on
 
 -- all of them fit, or not
-pub store-fits : (l s : List ℕ) (at : ℕ) → at + length s ≤ length l → storedWhere l at s ≡ stored l at s
-unfolding storedWhere
+pub store-fits : (l s : List ℕ) (at : ℕ) → at + length s ≤ length l → overPlacesWhere l at s ≡ overPlaces l at s
+unfolding overPlacesWhere
 store-fits l s at h = rw (le-leb (at + length s) (length l) h)
 
-pub store-not : (l s : List ℕ) (at : ℕ) → length l < at + length s → storedWhere l at s ≡ l
-unfolding storedWhere
+pub store-not : (l s : List ℕ) (at : ℕ) → length l < at + length s → overPlacesWhere l at s ≡ l
+unfolding overPlacesWhere
 store-not l s at h = rw (lt-leb (at + length s) (length l) h)

@@ -5,7 +5,7 @@ use mathlib.Core.List.{List}
 use Prim.Native.Nat.{ℕ, _+_, _*_, _-_, _/_, _%_}
 use lib.Dec.{eqb, leb, ltb}
 use lib.ListN.{length, getD}
-use Rattle.card.specs.Range.{listOf, all}
+use Rattle.card.specs.Lists.{listOf, all}
 
 -- The value of an upper-case hexadecimal digit, 0 to 9 or A to F in ASCII; 16 for any other byte.
 unfoldable pub digitValue : ℕ → ℕ
@@ -26,8 +26,8 @@ bytesIn s = listOf (length s / 2) (byteAt s)
 unfoldable pub hexDigit : ℕ → ℕ
 hexDigit x = cond (ltb (x % 16) 10) (x % 16 + 48) (x % 16 + 55)
 
-unfoldable pub digitAt : List ℕ → ℕ → ℕ
-digitAt s i = cond (eqb (i % 2) 0) (hexDigit (getD s (i / 2) 0 / 16)) (hexDigit (getD s (i / 2) 0))
+unfoldable pub hexDigitAt : List ℕ → ℕ → ℕ
+hexDigitAt s i = cond (eqb (i % 2) 0) (hexDigit (getD s (i / 2) 0 / 16)) (hexDigit (getD s (i / 2) 0))
 
 unfoldable pub hexOf : List ℕ → List ℕ
-hexOf s = listOf (2 * length s) (digitAt s)
+hexOf s = listOf (2 * length s) (hexDigitAt s)

@@ -4,8 +4,8 @@ ghost use mathlib.Core.Bool.{not};
 ghost use Prim.Native.Nat.{_+_, _≤_};
 ghost use lib.Dec.{eqb};
 ghost use lib.ListN.{length, getD, drop};
-ghost use Rattle.card.specs.Range.{all, stored};
-ghost use Rattle.text.specs.Place.{countBefore, storedWhere};
+ghost use Rattle.card.specs.Lists.{all, overPlaces};
+ghost use Rattle.text.specs.Place.{countBefore, overPlacesWhere};
 
 // None of the 32 bytes from place `at` on is x. Every one is looked at: there is no early exit.
 fn none_of(s: &[u8], at: usize, x: u8) -> bool
@@ -55,7 +55,7 @@ pub fn find(s: &[u8], from: usize, x: u8) -> usize
 // The bytes s stored in out from place `at` on.
 fn put(out: &mut [u8], at: usize, s: &[u8])
     requires { ⌜ at + length (now s) ≤ length (now out) ⌝ }
-    ensures { λ r. ⌜ now (out .exit) ≡ stored (now (out .entry)) at (now (s .entry)) ⌝ }
+    ensures { λ r. ⌜ now (out .exit) ≡ overPlaces (now (out .entry)) at (now (s .entry)) ⌝ }
 {
     for i in 0..s.len() {
         out[at + i] = s[i];
@@ -64,7 +64,7 @@ fn put(out: &mut [u8], at: usize, s: &[u8])
 
 // The bytes s stored in out from place `at` on, where all of them fit; out as it was where they do not.
 pub fn store(out: &mut [u8], at: usize, s: &[u8])
-    ensures { λ r. ⌜ now (out .exit) ≡ storedWhere (now (out .entry)) at (now (s .entry)) ⌝ }
+    ensures { λ r. ⌜ now (out .exit) ≡ overPlacesWhere (now (out .entry)) at (now (s .entry)) ⌝ }
 {
     if out.len() < at {
         return;

@@ -2,8 +2,8 @@
 ghost use mathlib.Core.Path.{_≡_};
 ghost use Prim.Native.Nat.{_+_, _*_, _/_, _≤_, _<_, min};
 ghost use lib.ListN.{length, take};
-ghost use Rattle.card.specs.Range.{written};
-ghost use Rattle.text.specs.Hex.{digitValue, isHex, byteAt, hexDigit, digitAt};
+ghost use Rattle.card.specs.Lists.{written};
+ghost use Rattle.text.specs.Hex.{digitValue, isHex, byteAt, hexDigit, hexDigitAt};
 
 // The value of an upper-case hexadecimal digit; 16 for any other byte.
 fn digit_value(x: u8) -> u8
@@ -69,7 +69,7 @@ pub fn digit(x: u8) -> u8
 // Digit i of the text that spells s: two digits a byte, the higher first.
 fn digit_at(s: &[u8], i: usize) -> u8
     requires { ⌜ i / 2 < length (now s) ⌝ }
-    ensures { λ r. ⌜ r ≡ digitAt (now (s .entry)) i ⌝ }
+    ensures { λ r. ⌜ r ≡ hexDigitAt (now (s .entry)) i ⌝ }
 {
     let x = s[i / 2];
     if i % 2 == 0 { digit(x / 16) } else { digit(x) }
@@ -86,7 +86,7 @@ fn twice_within(n: usize, room: usize) -> usize
 // The digits of the text that spells s, stored at the front of out, as far as they fit; how many they are.
 pub fn write(s: &[u8], out: &mut [u8]) -> usize
     ensures is { λ r. ⌜ r ≡ min (2 * length (now (s .entry))) (length (now (out .entry))) ⌝ }
-    ensures stores { λ r. ⌜ now (out .exit) ≡ written (now (out .entry)) 0 r (digitAt (now (s .entry))) ⌝ }
+    ensures stores { λ r. ⌜ now (out .exit) ≡ written (now (out .entry)) 0 r (hexDigitAt (now (s .entry))) ⌝ }
 {
     let n = twice_within(s.len(), out.len());
     for i in 0..n {

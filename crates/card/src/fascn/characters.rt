@@ -3,7 +3,7 @@
 ghost use mathlib.Core.Path.{_≡_};
 ghost use Prim.Native.Nat.{_+_, _-_, _*_, _%_, _/_, _^_, _<_};
 ghost use lib.ListN.{length, getD};
-ghost use Rattle.card.specs.Range.{listOf, all, number, written};
+ghost use Rattle.card.specs.Lists.{listOf, all, number, written};
 ghost use Rattle.card.specs.Characters.{Readable, Writable, oddChar, valueChar, charOf, charsIn, bytesOfChars};
 
 pub(crate) fn wide(x: u8) -> u64

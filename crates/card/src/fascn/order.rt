@@ -3,7 +3,7 @@ use crate::bytes;
 use crate::fascn::characters;
 ghost use mathlib.Core.Path.{_≡_};
 ghost use lib.ListN.{getD};
-ghost use Rattle.card.specs.Range.{listOf, all};
+ghost use Rattle.card.specs.Lists.{listOf, all};
 ghost use Rattle.card.specs.Fascn.{digitsIn, marksIn, decimalAt};
 ghost use Rattle.card.specs.Characters.{charOf, inOrder, checkDigits, charsOf};
 

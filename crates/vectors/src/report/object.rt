@@ -13,7 +13,7 @@ use card::tlv::Header;
 ghost use mathlib.Core.Path.{_≡_};
 ghost use Prim.Native.Nat.{_+_, _*_, _/_, _%_, _≤_};
 ghost use lib.ListN.{length};
-ghost use Rattle.card.specs.Range.{all};
+ghost use Rattle.card.specs.Lists.{all};
 ghost use Rattle.vectors.specs.Line.{decimalPair};
 
 // A tag's bytes, high byte first.

@@ -6,8 +6,8 @@ use borrow.Author.Needs.{needs}
 use borrow.Author.Tests.{eq-eqb, ne-eqb}
 use lib.Dec.{eqb}
 use lib.ListN.{length, getD}
-use Rattle.card.specs.Range.{all, sameBytes}
-use Rattle.card.proofs.RangeLaws.{all-more}
+use Rattle.card.specs.Lists.{all, sameBytes}
+use Rattle.card.proofs.ListsLaws.{all-more}
 use Rattle.card.proofs.bytes.same.Statement.{statement}
 use Rattle.card.proofs.bytes.same.Tie as tie
 

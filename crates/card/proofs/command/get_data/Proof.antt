@@ -2,7 +2,7 @@
 use mathlib.Core.Path.{refl, sym, _∙_}
 use borrow.Author.Needs.{needs}
 use Rattle.card.specs.Command.{getDataBytes, getDataOf}
-use Rattle.card.proofs.RangeLaws.{stored-first, stored-next}
+use Rattle.card.proofs.ListsLaws.{stored-first, stored-next}
 use Rattle.card.proofs.CommandLaws.{tag-length, get-data-length, command-fits, command-short}
 use Rattle.card.proofs.command.get_data.Statement.{statement}
 use Rattle.card.proofs.command.get_data.Tie as tie

@@ -2,7 +2,7 @@
 use mathlib.Core.Path.{refl, _∙_}
 use borrow.Author.Needs.{needs}
 use Rattle.card.specs.Command.{getResponseBytes, getResponseOf}
-use Rattle.card.proofs.RangeLaws.{stored-first, stored-next}
+use Rattle.card.proofs.ListsLaws.{stored-first, stored-next}
 use Rattle.card.proofs.CommandLaws.{command-fits, command-short}
 use Rattle.card.proofs.command.get_response.Statement.{statement}
 use Rattle.card.proofs.command.get_response.Tie as tie

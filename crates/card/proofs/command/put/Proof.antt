@@ -1,7 +1,7 @@
 -- `card::command::put` meets its contract. Assumes nothing.
 use mathlib.Core.Path.{_∙_}
 use borrow.Author.Needs.{needs}
-use Rattle.card.proofs.RangeLaws.{written-stored}
+use Rattle.card.proofs.ListsLaws.{written-stored}
 use Rattle.card.proofs.command.put.Statement.{statement}
 use Rattle.card.proofs.command.put.Tie as tie
 

@@ -2,14 +2,14 @@
 use mathlib.Core.Path.{refl, sym, _∙_}
 use native.Mathlib.Omega.{arith}
 use borrow.Author.Needs.{needs}
-use Rattle.card.specs.Command.{selectBytes, selectOf, commandOf}
-use Rattle.card.proofs.RangeLaws.{stored-first, stored-next}
+use Rattle.card.specs.Command.{selectBytes, selectOf, commandWritten}
+use Rattle.card.proofs.ListsLaws.{stored-first, stored-next}
 use Rattle.card.proofs.CommandLaws.{select-length, aid-most, command-fits, command-short}
 use Rattle.card.proofs.command.select.Statement.{statement}
 use Rattle.card.proofs.command.select.Tie as tie
 
 returns : tie.Need-returns
-unfolding selectOf commandOf
+unfolding selectOf commandWritten
 returns c = rw (c .if1 .taken)
 
 returns-2 : tie.Need-returns-2

@@ -6,16 +6,16 @@ use native.Mathlib.Omega.{arith}
 use borrow.Author.Needs.{needs}
 use lib.Dec.{leb}
 use lib.ListN.{getD}
-use Rattle.card.specs.Range.{all, number}
-use Rattle.card.specs.Date.{digitAt, dateOf}
-use Rattle.card.proofs.RangeLaws.{all-more}
+use Rattle.card.specs.Lists.{all, number}
+use Rattle.card.specs.Date.{isDigitAt, dateOf}
+use Rattle.card.proofs.ListsLaws.{all-more}
 use Rattle.card.proofs.NumberLaws.{number-more}
 use Rattle.card.proofs.DateLaws.{room, date-is, not-eight}
 use Rattle.card.proofs.date.read.Statement.{statement}
 use Rattle.card.proofs.date.read.Tie as tie
 
 abbrev Inv-loop : tie.InvT-loop
-Inv-loop s n₀ ok₀ i₀ n ok i = (i ≤ 8) × (n ≡ number 10 i (λ j. getD s j 0 % 16)) × (ok ≡ all i (digitAt s))
+Inv-loop s n₀ ok₀ i₀ n ok i = (i ≤ 8) × (n ≡ number 10 i (λ j. getD s j 0 % 16)) × (ok ≡ all i (isDigitAt s))
 
 abbrev μ-loop : tie.MeasureT-loop
 μ-loop s n₀ ok₀ i₀ n ok i = 8 - i
@@ -28,14 +28,14 @@ small : (c : tie.After-shared-slice-known2 Inv-loop μ-loop) → c .before .befo
 small c = let at = c .before .before in room (at .before .before .before .args .s .now) (at .loop .i) (omega arith) (at .loop .inv .1)
 
 loop-again : tie.Need-loop-again Inv-loop μ-loop
-unfolding digitAt
+unfolding isDigitAt
 loop-again c =
     let at = c .before .before in
     let s = at .before .before .before .args .s .now in
     let b = getD s (at .loop .i) 0 in (
       search needs,
       number-more 10 (λ j. getD s j 0 % 16) (at .loop .i) (at .loop .inv .1),
-      and-assoc (at .loop .ok) (leb 0x30 b) (leb b 0x39) ∙ all-more (digitAt s) (at .loop .i) (at .loop .inv .2) refl,
+      and-assoc (at .loop .ok) (leb 0x30 b) (leb b 0x39) ∙ all-more (isDigitAt s) (at .loop .i) (at .loop .inv .2) refl,
     )
 
 -- after the loop, the two tests decide

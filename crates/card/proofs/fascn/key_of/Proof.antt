@@ -6,7 +6,7 @@ use native.Mathlib.Omega.{arith}
 use borrow.Author.Needs.{needs}
 use lib.Dec.{lit<}
 use lib.ListN.{getD}
-use Rattle.card.specs.Range.{number}
+use Rattle.card.specs.Lists.{number}
 use Rattle.card.specs.Fascn.{keyOf}
 use Rattle.card.proofs.NumberLaws.{number-more}
 use native.Mathlib.Nat.{pow-succ', pow-le-pow-right}

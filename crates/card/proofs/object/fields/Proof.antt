@@ -5,7 +5,7 @@ use Prim.Native.Nat.{_-_, _≤_}
 use native.Mathlib.Omega.{arith}
 use lib.Dec.{eqb}
 use lib.ListN.{length, getD, take, replicate}
-use Rattle.card.specs.Object.{mostFields, field, empty, rowsOf, fieldOf, fieldsFrom, fieldsAnswer}
+use Rattle.card.specs.Object.{mostFields, field, empty, rowsOf, rowField, fieldsFrom, fieldsAnswer}
 use Rattle.card.proofs.FieldLaws.{row-at, Read, read-none, read-more, read-all}
 use Rattle.card.proofs.object.fields.Statement.{statement}
 use Rattle.card.proofs.object.fields.Tie as tie
@@ -24,7 +24,7 @@ loop-again c =
     let i = at .loop .i in
     let f = c .before .before .next-field .result in
     let r = getD (l .result .rows) i (field 0 0 0) in
-    let q : f ≡ fieldOf (a .v .now) (a .base) r (at .loop .at) = c .before .before .next-field .ensures .0 in (
+    let q : f ≡ rowField (a .v .now) (a .base) r (at .loop .at) = c .before .before .next-field .ensures .0 in (
       omega arith,
       read-more r f (at .loop .inv .1) (omega arith) (row-at (l .result .rows) (l .result .n) i (field 0 0 0) (l .ensures .0) (l .ensures .1 .1) (omega arith)) q (c .before .before .next-field .ensures .1),
     )

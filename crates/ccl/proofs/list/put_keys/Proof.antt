@@ -4,9 +4,9 @@ use Prim.Native.Nat.{_-_, _≤_}
 use native.Mathlib.Omega.{arith}
 use borrow.Author.Needs.{needs}
 use lib.ListN.{length}
-use Rattle.card.specs.Range.{written}
-use Rattle.card.proofs.RangeLaws.{written-none, front-more, length-written}
-use Rattle.ccl.specs.Line.{keyIn}
+use Rattle.card.specs.Lists.{written}
+use Rattle.card.proofs.ListsLaws.{written-none, front-more, length-written}
+use Rattle.ccl.specs.Line.{lineKey}
 use Rattle.ccl.specs.ListText.{keyAt}
 use Rattle.ccl.proofs.LinesLaws.{part-line, length-part}
 use Rattle.ccl.proofs.list.put_keys.Statement.{statement}
@@ -21,8 +21,8 @@ abbrev μ-loop : tie.MeasureT-loop
 loop-holds : tie.Need-loop-holds Inv-loop μ-loop
 loop-holds c = (search needs, sym (written-none _ _ _))
 
-key-in-requires : tie.Need-key-in-requires Inv-loop μ-loop
-key-in-requires c κs =
+line-key-requires : tie.Need-line-key-requires Inv-loop μ-loop
+line-key-requires c κs =
     let at = c .before .before in
     omega (arith, length-part (at .before .before .before .args .text .now) (at .loop .i) (omega arith))
 
@@ -38,7 +38,7 @@ loop-again c =
     let a = at .before .before .before .args in (
       search needs,
       front-more (a .keys .now) (at .loop .i) (keyAt (a .text .now)) (omega arith) (at .loop .inv .1)
-          (c .key-in .ensures ∙ ap keyIn (part-line (a .text .now) (at .loop .i))),
+          (c .line-key .ensures ∙ ap lineKey (part-line (a .text .now) (at .loop .i))),
     )
 
 returns : tie.Need-returns Inv-loop μ-loop
@@ -48,6 +48,6 @@ pub put-keys-spec : {M : Type 1} → statement M
 put-keys-spec =
     tie.close
     (tie.spec
-    Inv-loop μ-loop loop-holds (λ c. omega arith) (λ c. omega arith) (λ c. omega arith) (λ c. omega arith) (λ c. omega arith) key-in-requires
+    Inv-loop μ-loop loop-holds (λ c. omega arith) (λ c. omega arith) (λ c. omega arith) (λ c. omega arith) (λ c. omega arith) line-key-requires
     (λ c. omega arith) (λ c. omega (arith, length-keys (c .before .before .before))) (λ c. omega arith) (λ c. omega arith)
     loop-again (λ c. length-keys (c .before)) returns)

@@ -5,29 +5,29 @@ use native.Mathlib.Omega.{arith}
 use borrow.Author.Needs.{needs}
 use lib.ListN.{length, take}
 use lib.Seq.{take-length}
-use Rattle.card.specs.Range.{front}
-use Rattle.card.proofs.RangeLaws.{length-front}
-use Rattle.ccl.specs.ListText.{textOf}
+use Rattle.card.specs.Lists.{overFront}
+use Rattle.card.proofs.ListsLaws.{length-front}
+use Rattle.ccl.specs.ListText.{linesOf}
 use Rattle.ccl.proofs.LineLaws.{length-line}
 use Rattle.ccl.proofs.LinesLaws.{length-first, line-stored}
 use Rattle.ccl.proofs.list.put_lines.Statement.{statement}
 use Rattle.ccl.proofs.list.put_lines.Tie as tie
 
 abbrev Inv-loop : tie.InvT-loop
-Inv-loop keys out₀ i₀ i-end out i = (i ≤ length keys) × (i-end ≡ length keys) × (out ≡ front (textOf (take i keys)) out₀)
+Inv-loop keys out₀ i₀ i-end out i = (i ≤ length keys) × (i-end ≡ length keys) × (out ≡ overFront (linesOf (take i keys)) out₀)
 
 abbrev μ-loop : tie.MeasureT-loop
 μ-loop keys out₀ i₀ i-end out i = length keys - i
 
 loop-holds : tie.Need-loop-holds Inv-loop μ-loop
-unfolding textOf front
+unfolding linesOf overFront
 loop-holds c = (search needs, refl, refl)
 
 length-out : (c : tie.At-loop Inv-loop μ-loop) → length (c .loop .out) ≡ length (c .before .before .before .args .out .now)
 length-out c =
     let a = c .before .before .before .args in
     ap length (c .loop .inv .2)
-    ∙ length-front (textOf (take (c .loop .i) (a .keys .now))) (a .out .now) (rw (length-first (a .keys .now) (c .loop .i) (c .loop .inv .0)) (omega arith))
+    ∙ length-front (linesOf (take (c .loop .i) (a .keys .now))) (a .out .now) (rw (length-first (a .keys .now) (c .loop .i) (c .loop .inv .0)) (omega arith))
 
 put-line-requires : tie.Need-put-line-requires Inv-loop μ-loop
 put-line-requires c κs =

@@ -6,7 +6,7 @@ use borrow.Author.Needs.{needs}
 use borrow.Author.Tests.{eq-eqb, ne-eqb, lt-ltb, le-ltb}
 use lib.Dec.{eqb, ltb}
 use lib.ListN.{length}
-use Rattle.ccl.specs.ListText.{wellFormed, readRefusal, readOf, keysThen}
+use Rattle.ccl.specs.ListText.{wellFormed, readRefusal, readOf, keysAfter}
 use Rattle.ccl.proofs.list.read.Statement.{statement}
 use Rattle.ccl.proofs.list.read.Tie as tie
 
@@ -19,15 +19,15 @@ unfolding readRefusal wellFormed
 refusal-is c = rw (← c .good-lines .ensures .0)
 
 returns : tie.Need-returns
-unfolding readOf keysThen
+unfolding readOf keysAfter
 returns c = rw (refusal-is (c .before), ← c .before .good-lines .ensures .0, ne-eqb _ _ (c .if1 .taken)) (refl, refl)
 
 returns-2 : tie.Need-returns-2
-unfolding readOf keysThen
+unfolding readOf keysAfter
 returns-2 c = rw (refusal-is (c .before .before), eq-eqb _ _ (c .before .if1 .left), lt-ltb _ _ (c .if2 .taken)) (refl, refl)
 
 returns-3 : tie.Need-returns-3
-unfolding readOf keysThen
+unfolding readOf keysAfter
 returns-3 c =
     let p = c .before .before .before .before in
     let q = p .before .before in

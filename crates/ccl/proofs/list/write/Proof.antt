@@ -6,7 +6,7 @@ use borrow.Author.Needs.{needs}
 use borrow.Author.Tests.{lt-ltb, le-ltb}
 use lib.Dec.{ltb}
 use lib.ListN.{length}
-use Rattle.ccl.specs.ListText.{writeRefusal, writeOf, textThen}
+use Rattle.ccl.specs.ListText.{writeRefusal, writeOf, textAfter}
 use Rattle.ccl.proofs.list.write.Statement.{statement}
 use Rattle.ccl.proofs.list.write.Tie as tie
 
@@ -18,15 +18,15 @@ unfolding writeRefusal
 refusal-is c = rw (← c .small-keys .ensures)
 
 returns : tie.Need-returns
-unfolding writeOf textThen
+unfolding writeOf textAfter
 returns c = rw (refusal-is (c .before), c .if1 .taken) (refl, refl)
 
 returns-2 : tie.Need-returns-2
-unfolding writeOf textThen
+unfolding writeOf textAfter
 returns-2 c = rw (refusal-is (c .before .before), c .before .if1 .left, lt-ltb _ _ (c .if2 .taken)) (refl, refl)
 
 returns-3 : tie.Need-returns-3
-unfolding writeOf textThen
+unfolding writeOf textAfter
 returns-3 c =
     let p = c .before .before .before .before in
     rw (refusal-is (p .before .before), p .before .if1 .left, le-ltb _ _ (p .if2 .left)) (refl, c .before .before .put-lines .ensures)

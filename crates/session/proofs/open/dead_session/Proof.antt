@@ -4,7 +4,7 @@ use Rattle.session.proofs.open.dead_session.Statement.{statement}
 use Rattle.session.proofs.open.dead_session.Tie as tie
 
 returns : tie.Need-returns
-returns c = rw (c .before .begin .ensures, c .no-card .ensures)
+returns c = rw (c .before .at-step .ensures, c .no-card .ensures)
 
 pub dead-session-spec : {M : Type 1} → statement M
 dead-session-spec = tie.close (tie.spec (λ c κs. search needs) (λ c κs. search needs) returns)

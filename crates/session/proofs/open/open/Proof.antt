@@ -3,7 +3,7 @@ use borrow.Author.Needs.{needs}
 use mathlib.Core.Path.{sym, _∙_}
 use Rattle.session.specs.Operation.{opened, dead, openOf}
 use Rattle.session.proofs.CallLaws.{open-fits, accepts, refuses}
-use Rattle.session.proofs.KeptLaws.{open-both}
+use Rattle.session.proofs.CallPromiseLaws.{open-both}
 use Rattle.session.proofs.open.open.Statement.{statement}
 use Rattle.session.proofs.open.open.Tie as tie
 

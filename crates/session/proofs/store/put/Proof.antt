@@ -5,8 +5,8 @@ use native.Mathlib.Nat.{zero-add}
 use mathlib.Core.Path.{_≡_, sym, ap, _∙_}
 use Prim.Native.Nat.{ℕ, _+_, _-_, _≤_}
 use lib.ListN.{length, getD}
-use Rattle.card.specs.Range.{written}
-use Rattle.card.proofs.RangeLaws.{written-none, front-more, length-written, written-stored, stored-first}
+use Rattle.card.specs.Lists.{written}
+use Rattle.card.proofs.ListsLaws.{written-none, front-more, length-written, written-stored, stored-first}
 use Rattle.session.proofs.store.put.Statement.{statement}
 use Rattle.session.proofs.store.put.Tie as tie
 

@@ -1,24 +1,24 @@
 -- `session::tables::check_of` meets its contract: by the kind. Assumes nothing.
 use borrow.Author.Tests.{eq-eqb, ne-eqb}
 use native.Mathlib.Omega.{arith}
-use Rattle.session.specs.Tables.{checkOf}
+use Rattle.session.specs.Tables.{checkServed}
 use Rattle.session.proofs.tables.check_of.Statement.{statement}
 use Rattle.session.proofs.tables.check_of.Tie as tie
 
 returns : tie.Need-returns
-unfolding checkOf
+unfolding checkServed
 returns c = (simp (eq-eqb _ _ (c .if1 .taken)), omega arith)
 
 returns-2 : tie.Need-returns-2
-unfolding checkOf
+unfolding checkServed
 returns-2 c = (simp (ne-eqb _ _ (c .before .if1 .left), eq-eqb _ _ (c .if2 .taken)), omega arith)
 
 returns-3 : tie.Need-returns-3
-unfolding checkOf
+unfolding checkServed
 returns-3 c = (simp (ne-eqb _ _ (c .before .before .if1 .left), ne-eqb _ _ (c .before .if2 .left), eq-eqb _ _ (c .if3 .taken)), omega arith)
 
 returns-4 : tie.Need-returns-4
-unfolding checkOf
+unfolding checkServed
 returns-4 c = (simp (ne-eqb _ _ (c .before .before .if1 .left), ne-eqb _ _ (c .before .if2 .left), ne-eqb _ _ (c .if3 .left)), omega arith)
 
 pub check-of-spec : {M : Type 1} → statement M

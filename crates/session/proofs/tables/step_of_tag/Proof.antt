@@ -4,25 +4,25 @@ use mathlib.Core.Bool.{_||_, or-false, or-assoc}
 use Prim.Native.Nat.{ℕ}
 use borrow.Author.Tests.{eq-eqb, ne-eqb}
 use lib.Dec.{eqb}
-use Rattle.session.specs.Tables.{isIn, firstTags, stepOfTag}
+use Rattle.session.specs.Tables.{isIn, step1Tags, stepOfTag}
 use Rattle.session.proofs.tables.step_of_tag.Statement.{statement}
 use Rattle.session.proofs.tables.step_of_tag.Tie as tie
 
 -- the tags of step 1, as code and definition group their tests
-first-tags : (x : ℕ) → (((eqb x 0x30 || eqb x 0x34) || eqb x 0x35) || eqb x 0x3E) ≡ isIn x firstTags
-first-tags x = simp (or-assoc, or-false)
+step1-tags : (x : ℕ) → (((eqb x 0x30 || eqb x 0x34) || eqb x 0x35) || eqb x 0x3E) ≡ isIn x step1Tags
+step1-tags x = simp (or-assoc, or-false)
 
 returns : tie.Need-returns
 unfolding stepOfTag
-returns c = rw (sym (first-tags (c .before .args .tag)) ∙ c .if1 .taken)
+returns c = rw (sym (step1-tags (c .before .args .tag)) ∙ c .if1 .taken)
 
 returns-2 : tie.Need-returns-2
 unfolding stepOfTag
-returns-2 c = rw (sym (first-tags (c .before .before .args .tag)) ∙ c .before .if1 .left, eq-eqb _ _ (c .if2 .taken))
+returns-2 c = rw (sym (step1-tags (c .before .before .args .tag)) ∙ c .before .if1 .left, eq-eqb _ _ (c .if2 .taken))
 
 returns-3 : tie.Need-returns-3
 unfolding stepOfTag
-returns-3 c = rw (sym (first-tags (c .before .before .args .tag)) ∙ c .before .if1 .left, ne-eqb _ _ (c .if2 .left))
+returns-3 c = rw (sym (step1-tags (c .before .before .args .tag)) ∙ c .before .if1 .left, ne-eqb _ _ (c .if2 .left))
 
 pub step-of-tag-spec : {M : Type 1} → statement M
 step-of-tag-spec = tie.close (tie.spec returns returns-2 returns-3)

@@ -6,8 +6,8 @@ use native.Mathlib.Omega.{arith}
 use borrow.Author.Needs.{needs}
 use lib.Dec.{eqb}
 use lib.ListN.{getD}
-use Rattle.card.specs.Range.{all}
-use Rattle.card.proofs.RangeLaws.{all-more}
+use Rattle.card.specs.Lists.{all}
+use Rattle.card.proofs.ListsLaws.{all-more}
 use Rattle.text.proofs.bytes.none_of.Statement.{statement}
 use Rattle.text.proofs.bytes.none_of.Tie as tie
 

@@ -11,8 +11,8 @@ use borrow.Author.Tests.{eq-eqb, ne-eqb}
 use lib.Dec.{eqb}
 use lib.ListN.{length, getD, drop}
 use lib.Seq.{drop-cons}
-use Rattle.card.specs.Range.{all}
-use Rattle.card.proofs.RangeLaws.{all-at}
+use Rattle.card.specs.Lists.{all}
+use Rattle.card.proofs.ListsLaws.{all-at}
 use Rattle.text.specs.Place.{countBefore}
 use Rattle.text.proofs.bytes.past_blocks.Statement.{statement}
 use Rattle.text.proofs.bytes.past_blocks.Tie as tie

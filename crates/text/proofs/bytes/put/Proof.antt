@@ -5,8 +5,8 @@ use native.Mathlib.Nat.{zero-add}
 use mathlib.Core.Path.{_≡_, sym, ap, _∙_}
 use Prim.Native.Nat.{_+_, _-_, _≤_}
 use lib.ListN.{length, getD}
-use Rattle.card.specs.Range.{written}
-use Rattle.card.proofs.RangeLaws.{written-none, written-more, length-written, written-stored}
+use Rattle.card.specs.Lists.{written}
+use Rattle.card.proofs.ListsLaws.{written-none, written-more, length-written, written-stored}
 use Rattle.text.proofs.bytes.put.Statement.{statement}
 use Rattle.text.proofs.bytes.put.Tie as tie
 

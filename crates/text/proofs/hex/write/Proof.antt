@@ -4,14 +4,14 @@ use Prim.Native.Nat.{_-_, _≤_}
 use native.Mathlib.Omega.{arith}
 use borrow.Author.Needs.{needs}
 use lib.ListN.{length}
-use Rattle.card.specs.Range.{written}
-use Rattle.card.proofs.RangeLaws.{written-none, front-more, length-written}
-use Rattle.text.specs.Hex.{digitAt}
+use Rattle.card.specs.Lists.{written}
+use Rattle.card.proofs.ListsLaws.{written-none, front-more, length-written}
+use Rattle.text.specs.Hex.{hexDigitAt}
 use Rattle.text.proofs.hex.write.Statement.{statement}
 use Rattle.text.proofs.hex.write.Tie as tie
 
 abbrev Inv-loop : tie.InvT-loop
-Inv-loop s out₀ n i₀ out i = (i ≤ n) × (out ≡ written out₀ 0 i (digitAt s))
+Inv-loop s out₀ n i₀ out i = (i ≤ n) × (out ≡ written out₀ 0 i (hexDigitAt s))
 
 abbrev μ-loop : tie.MeasureT-loop
 μ-loop s out₀ n i₀ out i = n - i

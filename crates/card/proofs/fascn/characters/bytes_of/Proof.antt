@@ -4,15 +4,15 @@ use Prim.Native.Nat.{_-_, _*_, _≤_}
 use native.Mathlib.Omega.{arith}
 use borrow.Author.Needs.{needs}
 use lib.ListN.{length, replicate}
-use Rattle.card.specs.Range.{written}
-use Rattle.card.specs.Characters.{recut, bytesOfChars}
-use Rattle.card.proofs.RangeLaws.{written-none, front-end}
+use Rattle.card.specs.Lists.{written}
+use Rattle.card.specs.Characters.{regrouped, bytesOfChars}
+use Rattle.card.proofs.ListsLaws.{written-none, front-end}
 use Rattle.card.proofs.CharacterLaws.{recut-turn}
 use Rattle.card.proofs.fascn.characters.bytes_of.Statement.{statement}
 use Rattle.card.proofs.fascn.characters.bytes_of.Tie as tie
 
 abbrev Inv-loop : tie.InvT-loop
-Inv-loop c s₀ g₀ s g = (g ≤ 5) × (s ≡ written s₀ 0 (5 * g) (recut 5 8 c)) × (length s ≡ 25)
+Inv-loop c s₀ g₀ s g = (g ≤ 5) × (s ≡ written s₀ 0 (5 * g) (regrouped 5 8 c)) × (length s ≡ 25)
 
 abbrev μ-loop : tie.MeasureT-loop
 μ-loop c s₀ g₀ s g = 5 - g

@@ -4,15 +4,15 @@ use Prim.Native.Nat.{_-_, _*_, _≤_}
 use native.Mathlib.Omega.{arith}
 use borrow.Author.Needs.{needs}
 use lib.ListN.{length, replicate}
-use Rattle.card.specs.Range.{written}
-use Rattle.card.specs.Characters.{recut, charsIn}
-use Rattle.card.proofs.RangeLaws.{written-none, front-end}
+use Rattle.card.specs.Lists.{written}
+use Rattle.card.specs.Characters.{regrouped, charsIn}
+use Rattle.card.proofs.ListsLaws.{written-none, front-end}
 use Rattle.card.proofs.CharacterLaws.{recut-turn}
 use Rattle.card.proofs.fascn.characters.characters_in.Statement.{statement}
 use Rattle.card.proofs.fascn.characters.characters_in.Tie as tie
 
 abbrev Inv-loop : tie.InvT-loop
-Inv-loop s c₀ g₀ c g = (g ≤ 5) × (c ≡ written c₀ 0 (8 * g) (recut 8 5 s)) × (length c ≡ 40)
+Inv-loop s c₀ g₀ c g = (g ≤ 5) × (c ≡ written c₀ 0 (8 * g) (regrouped 8 5 s)) × (length c ≡ 40)
 
 abbrev μ-loop : tie.MeasureT-loop
 μ-loop s c₀ g₀ c g = 5 - g

@@ -5,7 +5,7 @@ use native.Mathlib.Omega.{arith}
 use borrow.Author.Needs.{needs}
 use lib.Bits.{bitXor}
 use lib.ListN.{getD}
-use Rattle.card.specs.Range.{listOf, xorOf}
+use Rattle.card.specs.Lists.{listOf, xorOf}
 use Rattle.card.specs.Fascn.{order}
 use Rattle.card.specs.Characters.{marksOf, checkDigits}
 use Rattle.card.proofs.XorLaws.{xorOf-more}

@@ -1,12 +1,12 @@
 -- `card::fascn::order::digits_in` meets its contract: each run of digits is copied to its place. Assumes nothing.
 use borrow.Author.Needs.{needs}
-use Rattle.card.specs.Range.{listOf, run, written}
+use Rattle.card.specs.Lists.{listOf, sliceOf, written}
 use Rattle.card.specs.Fascn.{digitsFrom}
 use Rattle.card.proofs.fascn.order.digits_in.Statement.{statement}
 use Rattle.card.proofs.fascn.order.digits_in.Tie as tie
 
 returns : tie.Need-returns
-unfolding written digitsFrom run listOf
+unfolding written digitsFrom sliceOf listOf
 returns c =
     let run6 = c .before in
     let run5 = run6 .before .before .before .before in

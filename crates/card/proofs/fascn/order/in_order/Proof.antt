@@ -1,13 +1,13 @@
 -- `card::fascn::order::in_order` meets its contract: each run of characters is copied to its place, between the marks. Assumes nothing.
 use borrow.Author.Needs.{needs}
-use Rattle.card.specs.Range.{listOf, run, written}
+use Rattle.card.specs.Lists.{listOf, sliceOf, written}
 use Rattle.card.specs.Fascn.{valuesFrom}
-use Rattle.card.specs.Characters.{inOrder, remark}
+use Rattle.card.specs.Characters.{inOrder, marksMapped}
 use Rattle.card.proofs.fascn.order.in_order.Statement.{statement}
 use Rattle.card.proofs.fascn.order.in_order.Tie as tie
 
 returns : tie.Need-returns
-unfolding written inOrder remark valuesFrom run listOf
+unfolding written inOrder marksMapped valuesFrom sliceOf listOf
 returns c =
     let run6 = c .before in
     let run5 = run6 .before .before .before .before in

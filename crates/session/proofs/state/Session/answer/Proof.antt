@@ -8,7 +8,7 @@ use lib.Seq.{length-take-le, take-all}
 use Rattle.session.specs.Operation.{replyNumber}
 use Rattle.session.specs.Promise.{Bytes}
 use Rattle.session.proofs.CallLaws.{answer-taken, answer-refused, Fitting, answer-fits}
-use Rattle.session.proofs.KeptLaws.{answer-all}
+use Rattle.session.proofs.CallPromiseLaws.{answer-all}
 use Rattle.session.proofs.RangesLaws.{filled-in-range}
 use Rattle.session.proofs.state.Session.answer.Statement.{statement}
 use Rattle.session.proofs.state.Session.answer.Tie as tie
@@ -29,11 +29,11 @@ bytes c i = omega (arith, c .before .before .before .before .shared-slice-known 
 sub-n : tie.Need-sub-n
 sub-n c = fits c .least
 
-slice-aggregate-take : tie.Need-slice-aggregate-take
-slice-aggregate-take c = sym (length-take-le _ _ (omega arith))
+slice-aggregate-take-answer : tie.Need-slice-aggregate-take-answer
+slice-aggregate-take-answer c = sym (length-take-le _ _ (omega arith))
 
-take-requires : tie.Need-take-requires
-take-requires c κs =
+take-answer-requires : tie.Need-take-answer-requires
+take-answer-requires c κs =
     let at = c .before .before .before in
     let f = fits at in
     let a = at .before .before .before .before .before .before .args .answer .now in (
@@ -47,7 +47,7 @@ returns : tie.Need-returns
 returns c =
     let at = c .before .before .before .before .before .before in
     let a = at .before .before .before .before .before .before .args in
-    let e = c .before .before .take .ensures in
+    let e = c .before .before .take-answer .ensures in
     answer-all _ _ _ _ _ _ (bytes at) (answer-taken (a .self) (a .object .now) (a .answer .now) (a .cancelled .now) (at .before .before .answer-refusal .ensures) (accepted-is at) (rw (← status-part at) (e .0)) (rw (← status-part at) (e .1)))
 
 returns-2 : tie.Need-returns-2
@@ -57,5 +57,5 @@ pub answer-spec : {M : Type 1} → statement M
 answer-spec =
     tie.close
     (tie.spec
-    (λ c κs. search needs) (λ c κs. search needs) sub-n slice-aggregate-take (λ c. search needs) (λ c. search needs) (λ c. search needs) take-requires
+    (λ c κs. search needs) (λ c κs. search needs) sub-n slice-aggregate-take-answer (λ c. search needs) (λ c. search needs) (λ c. search needs) take-answer-requires
     (λ c. search needs) returns returns-2)

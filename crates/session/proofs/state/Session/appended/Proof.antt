@@ -7,7 +7,7 @@ returns : tie.Need-returns
 returns c = rw (c .before .enum-told .given .1) (c .judge .ensures)
 
 returns-2 : tie.Need-returns-2
-returns-2 c = rw (c .before .before .status .given .1) (c .with-more .ensures)
+returns-2 c = rw (c .before .before .status .given .1) (c .continued .ensures)
 
 returns-3 : tie.Need-returns-3
 returns-3 c = rw (c .before .enum-told2 .given .1) (c .judge2 .ensures)

@@ -7,16 +7,16 @@ use lib.ListN.{length}
 use mathlib.Core.Bool.{true}
 use Rattle.session.specs.Tables.{objectSize}
 use Rattle.session.specs.Ranges.{inRange}
-use Rattle.session.proofs.RangesLaws.{told, part-in-range}
+use Rattle.session.proofs.RangesLaws.{values-say, part-in-range}
 use Rattle.session.proofs.CallLaws.{field-refused, field-other, field-accepted, field-read, part-in-buffer}
-use Rattle.session.proofs.KeptLaws.{field-both}
+use Rattle.session.proofs.CallPromiseLaws.{field-both}
 use Rattle.session.proofs.state.Session.field.Statement.{statement}
 use Rattle.session.proofs.state.Session.field.Tie as tie
 
 returns : tie.Need-returns
 returns c =
     let a = c .before .before .before .before .before .before .args in
-    field-both _ _ _ _ (field-refused (a .self) (a .object .now) (a .tag) (rw (told _ (c .before .before .before .values .ensures) (c .before .before .out-of-range .ensures)) at (c .before .if1 .taken)))
+    field-both _ _ _ _ (field-refused (a .self) (a .object .now) (a .tag) (rw (values-say _ (c .before .before .before .values .ensures) (c .before .before .out-of-range .ensures)) at (c .before .if1 .taken)))
 
 returns-2 : tie.Need-returns-2
 returns-2 c =
@@ -27,7 +27,7 @@ returns-2 c =
 accepted : (c : tie.After-base-of) → let a = c .before .before .before .before .before .before .before .before .args in (inRange (a .self) ≡ true) × (length (a .object .now) ≡ objectSize)
 accepted c =
     let a = c .before .before .before .before .before .before .before .before .args in
-    field-accepted (a .self) (length (a .object .now)) (rw (told _ (c .before .before .before .before .before .values .ensures) (c .before .before .before .before .out-of-range .ensures)) at (c .before .before .before .if1 .left))
+    field-accepted (a .self) (length (a .object .now)) (rw (values-say _ (c .before .before .before .before .before .values .ensures) (c .before .before .before .before .out-of-range .ensures)) at (c .before .before .before .if1 .left))
 
 -- and the part ends inside it
 ends : (c : tie.After-base-of) → let p = c .before .part-for .result in c .base-of .result + (p .start + p .len) ≤ length (c .before .before .before .before .before .before .before .before .args .object .now)

@@ -2,7 +2,7 @@
 use borrow.Author.Needs.{needs}
 use mathlib.Core.Path.{sym, _∙_}
 use Rattle.session.proofs.CallLaws.{stamp-fits, stamp-accepted, stamp-refused}
-use Rattle.session.proofs.KeptLaws.{stamp-all}
+use Rattle.session.proofs.CallPromiseLaws.{stamp-all}
 use Rattle.session.specs.Operation.{stampAnswer}
 use Rattle.session.proofs.state.Session.stamp.Statement.{statement}
 use Rattle.session.proofs.state.Session.stamp.Tie as tie

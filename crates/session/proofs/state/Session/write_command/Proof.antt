@@ -10,7 +10,7 @@ use Rattle.session.proofs.SendLaws.{select-next, get-data-next, get-res
 use Rattle.session.proofs.state.Session.write_command.Statement.{statement}
 use Rattle.session.proofs.state.Session.write_command.Tie as tie
 
-aid-inside : (c : tie.After-sized-16) → let s = c .before .before .before .before .before .before .before .before .before .args .self in s .setting .«aid_len» ≤ length (s .setting .aid)
+aid-inside : (c : tie.After-sized-16) → let s = c .before .before .before .before .before .before .before .before .before .args .self in s .opening .«aid_len» ≤ length (s .opening .aid)
 aid-inside c = omega (arith, aid-in-range (c .before .before .before .before .before .before .before .before .before .args .self) (c .before .before .before .before .before .before .before .before .before .pre) .1, c .sized-16 .ensures)
 
 array-share-prefix-aid : tie.Need-array-share-prefix-aid

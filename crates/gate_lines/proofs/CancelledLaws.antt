@@ -1,0 +1,32 @@
+-- The list as text and the list that the session searches: a key is found cancelled exactly where its line stands in the text that was read.
+-- Assumes nothing.
+use mathlib.Core.Path.{_≡_, sym, _∙_}
+use mathlib.Core.Bool.{true}
+use mathlib.Core.Logic.{_↔_}
+use mathlib.Core.List.{List}
+use Prim.Native.Nat.{ℕ, _+_, _*_, _≤_, _<_}
+use native.Mathlib.Omega.{arith}
+use lib.ListN.{length, getD}
+use Rattle.card.proofs.ListsLaws.{length-listOf, getD-listOf}
+use Rattle.ccl.specs.Line.{keyLimit, lineOf}
+use Rattle.ccl.specs.ListText.{wellFormed, goodLines, keyAt, lineAt}
+use Rattle.ccl.proofs.ListTextLaws.{keysOf, found}
+use Rattle.session.specs.Tables.{listed}
+use Rattle.session.proofs.ListedLaws.{StandsIn, listed-at, listed-where}
+
+-- The line of the key is one of the text's lines.
+abbrev pub LineStands : ℕ → List ℕ → Type 0
+LineStands key text = (i : ℕ) × (32 * i + 32 ≤ length text) × (lineAt text i ≡ lineOf key)
+
+-- a place among the keys that were read is a line of the text
+place-line : (text : List ℕ) (key : ℕ) → StandsIn key (keysOf text) → (i : ℕ) × (i < goodLines text) × (keyAt text i ≡ key)
+place-line text key p =
+    let h : p .0 < goodLines text = omega (arith, p .1, length-listOf (goodLines text) (keyAt text)) in
+    (p .0, h, sym (getD-listOf (goodLines text) (keyAt text) (p .0) h) ∙ p .2)
+
+line-place : (text : List ℕ) (key : ℕ) → (i : ℕ) × (i < goodLines text) × (keyAt text i ≡ key) → StandsIn key (keysOf text)
+line-place text key p = (p .0, omega (arith, p .1, length-listOf (goodLines text) (keyAt text)), getD-listOf (goodLines text) (keyAt text) (p .0) (p .1) ∙ p .2)
+
+pub listed-line : (text : List ℕ) → wellFormed text ≡ true → (key : ℕ) → key < keyLimit → (listed key (keysOf text) ≡ true) ↔ LineStands key text
+listed-line text well key small =
+    (λ e. found text well key small .0 (place-line text key (listed-where key (keysOf text) e)), λ p. listed-at key (keysOf text) (line-place text key (found text well key small .1 p)))

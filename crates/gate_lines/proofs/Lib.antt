@@ -1,0 +1,21 @@
+-- Laws of this crate's definitions.
+-- CancelledLaws: the list as text and the list that the session searches
+-- LineLaws: a line as a value
+-- LineTextLaws: the text of such a value
+-- ReplyTextLaws: texts put together
+-- LentLaws: what a line lends to a call
+-- LineRunLaws: a line of each kind
+-- RunLaws: the promise over every list of lines
+-- InputLaws: the input cut into lines, in whatever blocks it arrives
+-- LinesLaws: lines put together, and cut again
+-- FeedLaws: a turn of the code
+pub mod CancelledLaws
+pub mod LineLaws
+pub mod LineTextLaws
+pub mod ReplyTextLaws
+pub mod LentLaws
+pub mod LineRunLaws
+pub mod RunLaws
+pub mod InputLaws
+pub mod LinesLaws
+pub mod FeedLaws

@@ -1,0 +1,306 @@
+-- A line and its text: a line that is not bad is the text of its value, and the text of a value that has one is read as that value.
+-- Assumes nothing.
+use mathlib.Core.Path.{_≡_, refl, sym, ap, subst, _∙_}
+use mathlib.Core.Bool.{Bool, true, false, cond, _&&_}
+use mathlib.Core.List.{List, [], _∷_, _++_, append-assoc}
+use Prim.Native.Nat.{ℕ, suc, _+_, _-_, _*_, _/_, _%_, _^_, _≤_, _<_}
+use native.Mathlib.Nat.{mod-eq-of-lt}
+use native.Mathlib.Omega.{arith}
+use borrow.Author.Tests.{eqb-true, ltb-true, le-leb, le-ltb}
+use lib.Dec.{eqb, leb, ltb, lit<}
+use lib.ListN.{length, getD, take, drop, length-drop, length-append, List·getD-append}
+use lib.Seq.{length-take-le, getD-take, getD-append-add, take-append-seam, drop-append-seam, getD-at}
+use Rattle.card.specs.Lists.{listOf, sliceOf, all}
+use Rattle.card.proofs.ListsLaws.{all-at, length-listOf, getD-listOf, listOf-is, listOf-ext}
+use Rattle.card.proofs.NumberLaws.{number-ext, number-lt, number-digit, number-mod}
+use Rattle.session.proofs.TestLaws.{and-parts}
+use Rattle.text.specs.Hex.{bytesIn, hexOf}
+use Rattle.text.specs.Form.{between, decimal, betweenAt}
+use Rattle.text.proofs.HexLaws.{hex-bytes, bytes-small, length-bytes, length-hex, hex-is-hex, bytes-hex}
+use Rattle.text.proofs.FormLaws.{between-at, between-mark}
+use Rattle.ccl.specs.Line.{space, goodCard, lineKey, cardText}
+use Rattle.ccl.proofs.LineLaws.{card-key, card-small, card-good, key-card}
+use Rattle.gate_lines.specs.Line.{GateLine, longest, openLowest, openHighest, answerHead, verdictLowest, verdictHighest, hexFrom, headed, callIn, lineIn}
+use Rattle.gate_lines.specs.Gate.{digit}
+use Rattle.gate_lines.specs.LineText.{digitsText, openName, openText, verdictName, verdictText, withHex, textOfLine, Spelled, Written}
+use Rattle.gate_lines.proofs.LineLaws.{headed-room, headed-form, headed-hex, headed-parts, line-short}
+
+-- ---- digits
+
+-- decimal digits stand at the n places from place `at` on
+abbrev Digits : List ℕ → ℕ → ℕ → Type 0
+Digits s at n = (j : ℕ) → j < n → (48 ≤ getD s (at + j) 0) × (getD s (at + j) 0 ≤ 57)
+
+decimal-lt : (s : List ℕ) (at n : ℕ) → Digits s at n → decimal s at n < 10 ^ n
+unfolding decimal
+decimal-lt s at n d = number-lt 10 n (λ j. getD s (at + j) 0 % 16) (λ j h. omega (arith, d j h))
+
+-- the digits of the number that they spell
+digits-back : (s : List ℕ) (at n : ℕ) → Digits s at n → digitsText n (decimal s at n) ≡ sliceOf at n s
+unfolding decimal digitsText sliceOf
+digits-back s at n d =
+    listOf-ext n (λ j h.
+    rw (number-digit 10 n (λ j. getD s (at + j) 0 % 16) (λ j h. omega (arith, d j h)) j h) (omega (arith, d j h)))
+
+-- ---- a line that is not bad is the text of its value
+
+-- the bytes of the two strings where they agree, and those of s elsewhere
+abbrev filled : List ℕ → List ℕ → List ℕ → List ℕ
+filled lo hi s = listOf (length lo) (λ i. cond (eqb (getD lo i 0) (getD hi i 0)) (getD lo i 0) (getD s i 0))
+
+length-hex-from : (n : ℕ) (s : List ℕ) → n + 3 ≤ length s → length (hexFrom n s) ≡ length s - (n + 1)
+unfolding hexFrom
+length-hex-from n s h = length-take-le (length s - (n + 1)) (drop n s) (rw (length-drop n s) (omega arith))
+
+module _ (lo hi s : List ℕ) (good : headed lo hi s ≡ true) where
+  at-place : (i : ℕ) → i < length lo → (getD lo i 0 ≤ getD s i 0) × (getD s i 0 ≤ getD hi i 0)
+  at-place i h = rw (getD-take (length lo) s i 0 h) at (between-at lo hi (take (length lo) s) (headed-form lo hi s good) .2 i)
+
+  head-filled : filled lo hi s ≡ take (length lo) s
+  head-filled =
+      listOf-is (length lo) _ (take (length lo) s) (length-take-le (length lo) s (omega (arith, headed-room lo hi s good)))
+      (λ i h. pinned (getD lo i 0) (getD hi i 0) (getD s i 0) (at-place i h .0) (at-place i h .1) ∙ sym (getD-take (length lo) s i 0 h))
+    where
+      pinned : (a b x : ℕ) → a ≤ x → x ≤ b → cond (eqb a b) a x ≡ x
+      pinned a b x p q = go (eqb a b) refl
+        where
+          go : (t : Bool) → eqb a b ≡ t → cond t a x ≡ x
+          go true e = omega (arith, eqb-true a b e)
+          go false e = refl
+
+  text-back : (head : List ℕ) → head ≡ filled lo hi s → withHex head (bytesIn (hexFrom (length lo) s)) ≡ s
+  unfolding withHex
+  text-back head e = rw (e, head-filled, hex-bytes (hexFrom (length lo) s) (headed-hex lo hi s good)) (headed-parts lo hi s good)
+
+  -- HEX has a pair or more
+  bytes-back : Spelled (bytesIn (hexFrom (length lo) s))
+  bytes-back = (rw (length-bytes (hexFrom (length lo) s)) (omega (arith, headed-room lo hi s good, length-hex-from (length lo) s (headed-room lo hi s good))), bytes-small (hexFrom (length lo) s))
+
+  -- where the two strings have the lowest and the highest digit, a digit stands
+  digits-in : (at n : ℕ) → all n (λ j. ltb (at + j) (length lo) && eqb (getD lo (at + j) 0) 48 && eqb (getD hi (at + j) 0) 57) ≡ true → Digits s at n
+  digits-in at n p j h =
+      let i = at + j in
+      let a = and-parts (ltb i (length lo) && eqb (getD lo i 0) 48) (eqb (getD hi i 0) 57) (all-at _ n p j h) in
+      let b = and-parts (ltb i (length lo)) (eqb (getD lo i 0) 48) (a .0) in
+      rw (eqb-true (getD lo i 0) 48 (b .1), eqb-true (getD hi i 0) 57 (a .1)) at (at-place i (ltb-true i (length lo) (b .0)))
+
+-- the heads, with digits that spell the value's numbers
+open-filled : (s : List ℕ) → Digits s 6 1 → Digits s 8 8 → openText (decimal s 6 1) (decimal s 8 8) ≡ filled openLowest openHighest s
+unfolding openText sliceOf listOf
+open-filled s d e = rw (digits-back s 6 1 d, digits-back s 8 8 e)
+
+verdict-filled : (s : List ℕ) → Digits s 9 1 → Digits s 11 1 → verdictText (decimal s 9 1) (decimal s 11 1) ≡ filled verdictLowest verdictHighest s
+unfolding verdictText sliceOf listOf
+verdict-filled s d e = rw (digits-back s 9 1 d, digits-back s 11 1 e)
+
+-- what a line's value and text are to each other
+abbrev ValueText : List ℕ → GateLine → Type 0
+ValueText s v = (v ≡ GateLine.bad → ⊥) → Written v × (textOfLine v ≡ s)
+
+-- a choice that has a property whichever way the test goes
+chosen : {A : Type 0} (P : A → Type 0) (b : Bool) {x y : A} → (b ≡ true → P x) → (b ≡ false → P y) → P (cond b x y)
+chosen P true f g = f refl
+chosen P false f g = g refl
+
+module _ (s : List ℕ) where
+  open-text : headed openLowest openHighest s ≡ true → ValueText s (GateLine.opening (decimal s 6 1) (decimal s 8 8) (bytesIn (hexFrom 17 s)))
+  unfolding textOfLine all
+  open-text e n =
+      let mode = digits-in openLowest openHighest s e 6 1 refl in
+      let date = digits-in openLowest openHighest s e 8 8 refl in (
+        (decimal-lt s 6 1 mode, decimal-lt s 8 8 date, bytes-back openLowest openHighest s e),
+        text-back openLowest openHighest s e (openText (decimal s 6 1) (decimal s 8 8)) (open-filled s mode date),
+      )
+
+  answer-text : headed answerHead answerHead s ≡ true → ValueText s (GateLine.answer (bytesIn (hexFrom 8 s)))
+  unfolding textOfLine listOf
+  answer-text e n = (bytes-back answerHead answerHead s e, text-back answerHead answerHead s e answerHead refl)
+
+  verdict-text : headed verdictLowest verdictHighest s ≡ true → ValueText s (GateLine.verdict (decimal s 9 1) (decimal s 11 1) (bytesIn (hexFrom 13 s)))
+  unfolding textOfLine all
+  verdict-text e n =
+      let kind = digits-in verdictLowest verdictHighest s e 9 1 refl in
+      let yesNo = digits-in verdictLowest verdictHighest s e 11 1 refl in (
+        (decimal-lt s 9 1 kind, decimal-lt s 11 1 yesNo, bytes-back verdictLowest verdictHighest s e),
+        text-back verdictLowest verdictHighest s e (verdictText (decimal s 9 1) (decimal s 11 1)) (verdict-filled s kind yesNo),
+      )
+
+  card-text : goodCard s ≡ true → ValueText s (GateLine.card (lineKey s))
+  unfolding textOfLine
+  card-text e n = (card-small s e, card-key s e)
+
+  bad-text : ValueText s GateLine.bad
+  bad-text n = absurd (n refl)
+
+  value-text : ValueText s (lineIn s)
+  unfolding lineIn callIn
+  value-text =
+      chosen (ValueText s) (ltb longest (length s)) (λ e. bad-text)
+      (λ e. chosen (ValueText s) (goodCard s) card-text
+      (λ e. chosen (ValueText s) (headed openLowest openHighest s) open-text
+      (λ e. chosen (ValueText s) (headed answerHead answerHead s) answer-text
+      (λ e. chosen (ValueText s) (headed verdictLowest verdictHighest s) verdict-text (λ e. bad-text)))))
+
+-- a line that is not bad is the text of its value, that value has a text, and the line is not too long
+pub text-read : (s : List ℕ) (v : GateLine) → lineIn s ≡ v → (v ≡ GateLine.bad → ⊥) → Written v × (textOfLine v ≡ s) × (length s ≤ longest)
+text-read s v e n = let t = subst (ValueText s) e (value-text s) n in (t .0, t .1, line-short s (λ z. n (sym e ∙ z)))
+
+-- ---- the text of a value that has one is read as that value
+
+decimal-text : (p q : List ℕ) (n x : ℕ) → x < 10 ^ n → decimal (p ++ digitsText n x ++ q) (length p) n ≡ x
+unfolding decimal digitsText
+decimal-text p q n x h = number-ext 10 n spelled ∙ number-mod 10 n x (lit< tt) ∙ mod-eq-of-lt h
+  where
+    value : (y : ℕ) → (48 + y % 10) % 16 ≡ y % 10
+    value y = omega arith
+
+    spelled : (j : ℕ) → j < n → getD (p ++ digitsText n x ++ q) (length p + j) 0 % 16 ≡ x / 10 ^ (n - suc j) % 10
+    spelled j l =
+        rw (
+          append-assoc p (digitsText n x) q,
+          getD-append-add p (digitsText n x ++ q) j 0,
+          List·getD-append (digitsText n x) q 0 j (rw (length-listOf n (λ j. digit (x / 10 ^ (n - suc j)))) l),
+          getD-listOf n (λ j. digit (x / 10 ^ (n - suc j))) j l,
+        ) (value (x / 10 ^ (n - suc j)))
+
+-- HEX after a head
+module _ (head bytes : List ℕ) where
+  length-after : length (withHex head bytes) ≡ length head + 2 * length bytes + 1
+  unfolding withHex
+  length-after = rw (length-append, length-append, length-hex bytes)
+
+  take-after : take (length head) (withHex head bytes) ≡ head
+  unfolding withHex
+  take-after = rw append-assoc (take-append-seam head (hexOf bytes ++ (0x29 ∷ [])))
+
+  hex-after : hexFrom (length head) (withHex head bytes) ≡ hexOf bytes
+  unfolding hexFrom withHex
+  hex-after =
+      let e : length (withHex head bytes) - (length head + 1) ≡ length (hexOf bytes) = omega (arith, length-after, length-hex bytes) in
+      rw (e, append-assoc, drop-append-seam head (hexOf bytes ++ (0x29 ∷ []))) (take-append-seam (hexOf bytes) (0x29 ∷ []))
+
+  last-after : getD (withHex head bytes) (length (withHex head bytes) - 1) 0 ≡ 0x29
+  unfolding withHex
+  last-after =
+      getD-at (head ++ hexOf bytes) 0x29 [] 0 (length (withHex head bytes) - 1) (length-append head (hexOf bytes) ∙ omega (arith, length-after, length-hex bytes))
+
+  bytes-after : Spelled bytes → bytesIn (hexFrom (length head) (withHex head bytes)) ≡ bytes
+  bytes-after w = ap bytesIn hex-after ∙ bytes-hex bytes (λ i h. w .1 i)
+
+  headed-after : (lo hi : List ℕ) → between lo hi head ≡ true → 1 ≤ length bytes → headed lo hi (withHex head bytes) ≡ true
+  unfolding headed
+  headed-after lo hi good h =
+      let e : length lo ≡ length head = sym (between-at lo hi head good .0) in
+      rw (
+        e,
+        le-leb (length head + 3) (length (withHex head bytes)) (omega (arith, length-after)),
+        take-after,
+        good,
+        hex-after,
+        hex-is-hex bytes,
+        last-after,
+      )
+
+-- the heads have their forms
+digit-least : (x : ℕ) → leb 48 (digit x) ≡ true
+digit-least x = le-leb 48 (digit x) (omega arith)
+
+digit-most : (x : ℕ) → leb (digit x) 57 ≡ true
+digit-most x = le-leb (digit x) 57 (omega arith)
+
+open-form : (mode date : ℕ) → between openLowest openHighest (openText mode date) ≡ true
+unfolding between betweenAt openText digitsText listOf all
+open-form mode date = simp (digit-least, digit-most)
+
+answer-form : between answerHead answerHead answerHead ≡ true
+unfolding between betweenAt all
+answer-form = refl
+
+verdict-form : (kind yesNo : ℕ) → between verdictLowest verdictHighest (verdictText kind yesNo) ≡ true
+unfolding between betweenAt verdictText digitsText listOf all
+verdict-form kind yesNo = simp (digit-least, digit-most)
+
+-- a line of another form: its second byte tells the forms apart
+other-card : (s : List ℕ) → (getD s 1 0 ≡ 0x63 → ⊥) → goodCard s ≡ false
+unfolding goodCard cardText
+other-card s n = by (goodCard s) refl
+  where
+    by : (b : Bool) → goodCard s ≡ b → b ≡ false
+    by true e = absurd (n (between-mark (cardText 0) (cardText 9999999999999999) s e 1 refl))
+    by false e = refl
+
+other-head : (lo hi s : List ℕ) → 1 < length lo → getD lo 1 0 ≡ getD hi 1 0 → (getD s 1 0 ≡ getD lo 1 0 → ⊥) → headed lo hi s ≡ false
+other-head lo hi s h q n = by (headed lo hi s) refl
+  where
+    by : (b : Bool) → headed lo hi s ≡ b → b ≡ false
+    by true e = absurd (n (omega (arith, q, at-place lo hi s e 1 h)))
+    by false e = refl
+
+-- the parts of the text of each form
+abbrev closed : List ℕ → List ℕ
+closed bytes = hexOf bytes ++ (0x29 ∷ [])
+
+open-parts : (mode date : ℕ) (aid : List ℕ) → mode < 10 → date < 10 ^ 8 → Spelled aid
+    → let s = withHex (openText mode date) aid in
+    (decimal s 6 1 ≡ mode) × (decimal s 8 8 ≡ date) × (bytesIn (hexFrom 17 s) ≡ aid) × (getD s 1 0 ≡ 0x6F)
+unfolding withHex openText digitsText listOf
+open-parts mode date aid h k w = (
+  decimal-text openName (space ++ digitsText 8 date ++ space ++ closed aid) 1 mode h,
+  decimal-text (openName ++ digitsText 1 mode ++ space) (space ++ closed aid) 8 date k,
+  bytes-after (openText mode date) aid w,
+  refl,
+)
+
+verdict-parts : (kind yesNo : ℕ) (fascn : List ℕ) → kind < 10 → yesNo < 10 → Spelled fascn
+    → let s = withHex (verdictText kind yesNo) fascn in
+    (decimal s 9 1 ≡ kind) × (decimal s 11 1 ≡ yesNo) × (bytesIn (hexFrom 13 s) ≡ fascn) × (getD s 1 0 ≡ 0x76)
+unfolding withHex verdictText digitsText listOf
+verdict-parts kind yesNo fascn h k w = (
+  decimal-text verdictName (space ++ digitsText 1 yesNo ++ space ++ closed fascn) 1 kind h,
+  decimal-text (verdictName ++ digitsText 1 kind ++ space) (space ++ closed fascn) 1 yesNo k,
+  bytes-after (verdictText kind yesNo) fascn w,
+  refl,
+)
+
+answer-second : (bytes : List ℕ) → getD (withHex answerHead bytes) 1 0 ≡ 0x61
+unfolding withHex
+answer-second bytes = refl
+
+-- a value that has a text, of at most 1,024 bytes, is read from it
+pub read-text : (v : GateLine) → Written v → length (textOfLine v) ≤ longest → lineIn (textOfLine v) ≡ v
+unfolding lineIn callIn textOfLine
+read-text (GateLine.card key) w l = rw (le-ltb longest (length (cardText key)) l, card-good key, key-card key w)
+read-text (GateLine.opening mode date aid) w l =
+    let s = withHex (openText mode date) aid in
+    let p = open-parts mode date aid (w .0) (w .1) (w .2) in
+    rw (
+      le-ltb longest (length s) l,
+      other-card s (λ e. omega (arith, e, p .3)),
+      headed-after (openText mode date) aid openLowest openHighest (open-form mode date) (w .2 .0),
+      p .0,
+      p .1,
+      p .2,
+    )
+read-text (GateLine.answer bytes) w l =
+    let s = withHex answerHead bytes in
+    rw (
+      le-ltb longest (length s) l,
+      other-card s (λ e. omega (arith, e, answer-second bytes)),
+      other-head openLowest openHighest s (lit< tt) refl (λ e. omega (arith, e, answer-second bytes)),
+      headed-after answerHead bytes answerHead answerHead answer-form (w .0),
+      bytes-after answerHead bytes w,
+    )
+read-text (GateLine.verdict kind yesNo fascn) w l =
+    let s = withHex (verdictText kind yesNo) fascn in
+    let p = verdict-parts kind yesNo fascn (w .0) (w .1) (w .2) in
+    rw (
+      le-ltb longest (length s) l,
+      other-card s (λ e. omega (arith, e, p .3)),
+      other-head openLowest openHighest s (lit< tt) refl (λ e. omega (arith, e, p .3)),
+      other-head answerHead answerHead s (lit< tt) refl (λ e. omega (arith, e, p .3)),
+      headed-after (verdictText kind yesNo) fascn verdictLowest verdictHighest (verdict-form kind yesNo) (w .2 .0),
+      p .0,
+      p .1,
+      p .2,
+    )
+read-text GateLine.bad w l = absurd w

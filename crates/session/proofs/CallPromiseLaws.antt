@@ -1,0 +1,189 @@
+-- The promise as the contracts carry it: what each call gives and leaves, for every history that leads to its session and buffer.
+-- Assumes nothing.
+use mathlib.Core.Path.{_≡_, refl, sym, ap, ap₂, subst, _∙_}
+use mathlib.Core.Bool.{Bool, true, false, cond}
+use mathlib.Core.Logic.{_↔_}
+use mathlib.Core.List.{List, [], _∷_, _++_}
+use Prim.Native.Nat.{ℕ, _≤_}
+use native.Mathlib.Omega.{arith}
+use borrow.Author.Tests.{eqb-true, eqb-false, not-false, le-ltb}
+use lib.Dec.{eqb, ltb}
+use lib.ListN.{length, getD, take, drop}
+use lib.Seq.{take-at}
+use Rattle.card.specs.Lists.{overFront}
+use Rattle.card.specs.Date.{realDate}
+use Rattle.card.proofs.ListsLaws.{front-at}
+use Rattle.session.specs.Tables.{goodMode, stampSize}
+use Rattle.session.specs.Condition.{openConditions}
+use Rattle.session.specs.Reading.{refusedBy}
+use Rattle.session.specs.Finding.{Finding, finding, standing, stampOf}
+use Rattle.session.specs.Operation.{replyNumber, given, commandGiven, dead, opened, openRefusal, openOf, commandOf, commandBuffer, answerRefusal, answerOf, answerBuffer, verdictOf, fieldOf, stampAnswer, stampBuffer}
+use Rattle.session.specs.Promise.{Call, argumentsOf, Host, callNumber, hostAfter, runCalls, Bytes, LentNow, Lent, goodOpening, History, start, finish, readingOf, stampFor, ExtendedBy, OpenedBy, OpenPromise, CommandPromise, AnswerPromise, VerdictPromise, FieldPromise, StampPromise}
+use Rattle.session.specs.declared.state.Session.{Session}
+use Rattle.session.specs.declared.state.Answered.{Answered}
+use Rattle.session.specs.declared.state.Commanded.{Commanded}
+use Rattle.session.proofs.TestLaws.{and-both}
+use Rattle.session.proofs.ConditionLaws.{none-fit}
+use Rattle.session.proofs.StampLaws.{stamp-length, stamp-second}
+use Rattle.session.proofs.RunLaws.{zero-or, number-is}
+use Rattle.session.proofs.PromiseLaws.{reached, promise, apart}
+
+-- ---- one call more
+
+run-more : (cs : List Call) (h : Host) (c : Call) → runCalls h (cs ++ (c ∷ [])) ≡ hostAfter (runCalls h cs) c
+run-more [] h c = refl
+run-more (x ∷ cs) h c = run-more cs (hostAfter h x) c
+
+lent-more : (cs : List Call) (h : Host) (c : Call) → Lent h cs → LentNow (runCalls h cs) c → Lent h (cs ++ (c ∷ []))
+lent-more [] h c l k = (k, tt)
+lent-more (x ∷ cs) h c l k = (l .0, lent-more cs (hostAfter h x) c (l .1) k)
+
+pub extended : (h : History) (c : Call) (s : Session) (object : List ℕ) → LentNow (finish h) c → hostAfter (finish h) c ≡ record { session = s; object = object } → ExtendedBy h c s object
+extended h c s object l e =
+    record {
+      history = record { opening = h .opening; good = h .good; object = h .object; calls = h .calls ++ (c ∷ []); lent = lent-more (h .calls) (start h) c (h .lent) l };
+      opening = refl;
+      buffer = refl;
+      calls = refl;
+      host = run-more (h .calls) (start h) c ∙ e;
+    }
+
+-- the number of a call made next is the reading's
+number-next : (h : History) (c : Call) → callNumber (finish h) c ≡ refusedBy (readingOf h) (argumentsOf c)
+number-next h c = let a = reached h in ap (λ (x : Host). callNumber x c) (a .same) ∙ number-is (readingOf h) (a .object) c (a .holds)
+
+-- ---- open
+
+-- an opening that no condition fits is good
+opening-good : (mode date : ℕ) (aid : List ℕ) → openRefusal mode date aid ≡ 0 → goodOpening (record { mode = mode; date = date; aid = aid }) ≡ true
+unfolding openRefusal
+opening-good mode date aid e =
+    let c = none-fit (openConditions mode date aid) refl e in
+    and-both (and-both (not-false (goodMode mode) (c .0)) (not-false (realDate date) (c .1 .0))) (rw (c .1 .1 .0))
+
+-- it begins a history, with any object buffer
+pub opening-begins : (mode date : ℕ) (aid object : List ℕ) → openRefusal mode date aid ≡ 0 → OpenedBy (record { mode = mode; date = date; aid = aid }) (opened mode date aid) object
+opening-begins mode date aid object e =
+    record {
+      history = record { opening = record { mode = mode; date = date; aid = aid }; good = opening-good mode date aid e; object = object; calls = []; lent = tt };
+      opening = refl;
+      buffer = refl;
+      calls = refl;
+      host = refl;
+    }
+
+opened-zero : (k : ℕ) (s d x : Session) (n : ℕ) (b : Bool) → eqb k 0 ≡ b → (n, x) ≡ cond {A = ℕ × Session} b (0, s) (k, d) → n ≡ 0 → (k ≡ 0) × (x ≡ s)
+opened-zero k s d x n true p e z = (eqb-true k 0 p, ap (λ (y : ℕ × Session). y .1) e)
+opened-zero k s d x n false p e z = absurd (eqb-false k 0 p (sym (ap (λ (y : ℕ × Session). y .0) e) ∙ z))
+
+pub open-promise : (mode date : ℕ) (aid : List ℕ) (r : Answered) → given r ≡ openOf mode date aid → OpenPromise mode date aid r
+unfolding openOf
+open-promise mode date aid r e z object =
+    let c = opened-zero (openRefusal mode date aid) (opened mode date aid) dead (r .session) (replyNumber (r .reply)) (eqb (openRefusal mode date aid) 0) refl e z in
+    subst (λ (s : Session). OpenedBy (record { mode = mode; date = date; aid = aid }) s object) (sym (c .1)) (opening-begins mode date aid object (c .0))
+
+-- ---- command
+
+pub command-promise : (s : Session) (before left : List ℕ) (r : Commanded) → commandGiven r ≡ commandOf s (length before) → left ≡ commandBuffer s before → CommandPromise s before left r
+command-promise s before left r e b h es =
+    let p = promise h in
+    let g : commandGiven r ≡ commandOf (finish h .session) (length before) = e ∙ ap (λ (x : Session). commandOf x (length before)) es in
+    record {
+      number = ap (λ (x : ℕ × ℕ × Session). x .0) g ∙ p .command-number before;
+      count = ap (λ (x : ℕ × ℕ × Session). x .1) g ∙ p .command-count before;
+      bytes = b ∙ ap (λ (x : Session). commandBuffer x before) es ∙ p .command-bytes before;
+      extended = extended h (Call.command before) (r .session) (finish h .object) tt (ap (λ (x : ℕ × ℕ × Session). record { session = x .2; object = finish h .object }) (sym g));
+    }
+
+-- ---- answer
+
+-- its number is that of its conditions
+answer-number-is : (s : Session) (object bytes cancelled : List ℕ) → answerOf s object bytes cancelled .0 ≡ answerRefusal s (length object) (length bytes)
+unfolding answerOf
+answer-number-is s object bytes cancelled = zero-or (answerRefusal s (length object) (length bytes)) _ _ _ refl
+
+pub answer-promise : (s : Session) (object bytes cancelled left : List ℕ) (r : Answered) → Bytes bytes → given r ≡ answerOf s object bytes cancelled → left ≡ answerBuffer s object bytes
+    → AnswerPromise s object bytes cancelled left r
+answer-promise s object bytes cancelled left r b e w h es eo =
+    let t = finish h .session in
+    let g : given r ≡ answerOf t object bytes cancelled = e ∙ ap (λ (x : Session). answerOf x object bytes cancelled) es in
+    let n : replyNumber (r .reply) ≡ answerOf t object bytes cancelled .0 = ap (λ (x : ℕ × Session). x .0) g in
+    let buffer : cond (eqb (answerRefusal t (length object) (length bytes)) 0) (answerBuffer t object bytes) (finish h .object) ≡ cond (eqb (replyNumber (r .reply)) 0) left (finish h .object) =
+    ap₂ (λ (k : ℕ) (l : List ℕ). cond (eqb k 0) l (finish h .object)) (sym (n ∙ answer-number-is t object bytes cancelled)) (ap (λ (x : Session). answerBuffer x object bytes) (sym es) ∙ sym w) in
+    record {
+      number = n ∙ number-next h (Call.answer object bytes cancelled);
+      extended = extended h (Call.answer object bytes cancelled) (r .session) _ (λ z. eo (n ∙ z), b) (ap₂ (λ (x : ℕ × Session) (l : List ℕ). record { session = x .1; object = l }) (sym g) buffer);
+    }
+
+-- ---- verdict
+
+pub verdict-promise : (s : Session) (kind yesNo : ℕ) (fascn : List ℕ) (r : Answered) → given r ≡ verdictOf s kind yesNo fascn → VerdictPromise s kind yesNo fascn r
+verdict-promise s kind yesNo fascn r e h es =
+    let g : given r ≡ verdictOf (finish h .session) kind yesNo fascn = e ∙ ap (λ (x : Session). verdictOf x kind yesNo fascn) es in
+    record {
+      number = ap (λ (x : ℕ × Session). x .0) g ∙ number-next h (Call.verdict kind yesNo fascn);
+      extended = extended h (Call.verdict kind yesNo fascn) (r .session) (finish h .object) tt (ap (λ (x : ℕ × Session). record { session = x .1; object = finish h .object }) (sym g));
+    }
+
+-- ---- field
+
+pub field-promise : (s : Session) (object : List ℕ) (tag : ℕ) (value : List ℕ) → value ≡ fieldOf s object tag → FieldPromise s object tag value
+field-promise s object tag value e h es eo =
+    record {
+      value = e ∙ ap₂ (λ (x : Session) (l : List ℕ). fieldOf x l tag) es eo ∙ promise h .field-value tag;
+      extended = extended h (Call.field object tag) s object (λ z. eo) (ap₂ (λ (x : Session) (l : List ℕ). record { session = x; object = l }) (sym es) (sym eo));
+    }
+
+-- ---- stamp
+
+room-enough : (room : ℕ) → stampSize ≤ room → eqb (cond (ltb room stampSize) 6 0) 0 ≡ true
+room-enough room h = rw (le-ltb room stampSize h)
+
+front-take : (n : ℕ) (x l : List ℕ) → length x ≡ n → take n (overFront x l) ≡ x
+unfolding overFront
+front-take n x l e = take-at x (drop (length x) l) n e
+
+pub stamp-promise : (s : Session) (before left : List ℕ) (r : Answered) → given r ≡ stampAnswer s (length before) → left ≡ stampBuffer s before → StampPromise s before left r
+stamp-promise s before left r e b h es =
+    let p = promise h in
+    let f = finding (readingOf h) in
+    let size : length (stampOf f) ≡ stampSize = stamp-length (readingOf h) (reached h .object) (reached h .holds) in
+    let g : given r ≡ stampAnswer (finish h .session) (length before) = e ∙ ap (λ (x : Session). stampAnswer x (length before)) es in
+    let bytes : left ≡ stampFor (readingOf h) before = b ∙ ap (λ (x : Session). stampBuffer x before) es ∙ p .stamp-bytes before in
+    let written : stampSize ≤ length before → left ≡ overFront (stampOf f) before = λ room. bytes ∙ ap (λ (t : Bool). cond t (overFront (stampOf f) before) before) (room-enough (length before) room) in
+    record {
+      number = ap (λ (x : ℕ × Session). x .0) g ∙ p .stamp-number before;
+      bytes = bytes;
+      granted = λ room. by-byte f (ap (λ (l : List ℕ). getD l 1 0) (written room) ∙ front-at (stampOf f) before 1 (omega (arith, size)) ∙ stamp-second f) (p .granted);
+      apart = λ room u. by-stamp f (finding (readingOf u)) (ap (take stampSize) (written room) ∙ front-take stampSize (stampOf f) before size) (apart h u .stamps);
+      extended = extended h (Call.stamp before) (r .session) (finish h .object) tt (ap (λ (x : ℕ × Session). record { session = x .1; object = finish h .object }) (sym g));
+    }
+  where
+    by-byte : (f : Finding) {n : ℕ} {G : Type 0} → n ≡ standing f → (standing f ≡ 1) ↔ G → (n ≡ 1) ↔ G
+    by-byte f e (to, back) = (λ z. to (sym e ∙ z), λ z. e ∙ back z)
+
+    by-stamp : (f u : Finding) {l : List ℕ} {G : Type 0} → l ≡ stampOf f → (stampOf f ≡ stampOf u) ↔ G → (l ≡ stampOf u) ↔ G
+    by-stamp f u e (to, back) = (λ z. to (sym e ∙ z), λ z. e ∙ back z)
+
+-- ---- the clauses of each contract together
+
+pub open-both : (mode date : ℕ) (aid : List ℕ) (r : Answered) → given r ≡ openOf mode date aid → (given r ≡ openOf mode date aid) × OpenPromise mode date aid r
+open-both mode date aid r e = (e, open-promise mode date aid r e)
+
+pub command-all : (s : Session) (before left : List ℕ) (r : Commanded) → (commandGiven r ≡ commandOf s (length before)) × (left ≡ commandBuffer s before)
+    → (commandGiven r ≡ commandOf s (length before)) × ((left ≡ commandBuffer s before) × CommandPromise s before left r)
+command-all s before left r e = (e .0, (e .1, command-promise s before left r (e .0) (e .1)))
+
+pub answer-all : (s : Session) (object bytes cancelled left : List ℕ) (r : Answered) → Bytes bytes → (given r ≡ answerOf s object bytes cancelled) × (left ≡ answerBuffer s object bytes)
+    → (given r ≡ answerOf s object bytes cancelled) × ((left ≡ answerBuffer s object bytes) × AnswerPromise s object bytes cancelled left r)
+answer-all s object bytes cancelled left r b e = (e .0, (e .1, answer-promise s object bytes cancelled left r b (e .0) (e .1)))
+
+pub verdict-both : (s : Session) (kind yesNo : ℕ) (fascn : List ℕ) (r : Answered) → given r ≡ verdictOf s kind yesNo fascn → (given r ≡ verdictOf s kind yesNo fascn) × VerdictPromise s kind yesNo fascn r
+verdict-both s kind yesNo fascn r e = (e, verdict-promise s kind yesNo fascn r e)
+
+pub field-both : (s : Session) (object : List ℕ) (tag : ℕ) (value : List ℕ) → value ≡ fieldOf s object tag → (value ≡ fieldOf s object tag) × FieldPromise s object tag value
+field-both s object tag value e = (e, field-promise s object tag value e)
+
+pub stamp-all : (s : Session) (before left : List ℕ) (r : Answered) → given r ≡ stampAnswer s (length before) → left ≡ stampBuffer s before
+    → (given r ≡ stampAnswer s (length before)) × ((left ≡ stampBuffer s before) × StampPromise s before left r)
+stamp-all s before left r e b = (e, (b, stamp-promise s before left r e b))

@@ -1,0 +1,73 @@
+-- `session::state::Session::judge_step1` meets its contract: FASC-N and date are judged, and the session is what they give. Assumes nothing.
+use mathlib.Core.Path.{_≡_, sym, ap, _∙_}
+use mathlib.Core.List.{List}
+use Prim.Native.Nat.{ℕ}
+use borrow.Author.Needs.{needs}
+use denote.Ref.{now}
+use Rattle.card.specs.Fascn.{unpackOf, unpacked, keyOf}
+use Rattle.card.specs.Date.{dateOf, dateAnswer}
+use Rattle.card.specs.Object.{fieldValue}
+use Rattle.card.proofs.FascnLaws.{well-formed}
+use Rattle.session.specs.Tables.{kindAt, fascnRead, keyRead, expiryRead}
+use Rattle.session.specs.Operation.{goodEndSession}
+use Rattle.session.proofs.JudgeLaws.{step1-fascn, step1-date, step1-good}
+use Rattle.session.proofs.state.Session.judge_step1.Statement.{statement}
+use Rattle.session.proofs.state.Session.judge_step1.Tie as tie
+
+-- each value is that of the definition
+bytes-is : (c : tie.After-value) → let a = c .before .before .before .before .before .args in now (c .value .result) ≡ fascnRead (a .self .opening .mode) (a .joined .now)
+bytes-is c = rw (← c .before .kind-at .ensures) (c .value .ensures)
+
+unpacked-is : (c : tie.After-unpack) → let a = c .before .before .before .before .before .before .args in unpacked (c .unpack .result) ≡ unpackOf (fascnRead (a .self .opening .mode) (a .joined .now))
+unpacked-is c = c .unpack .ensures ∙ ap unpackOf (bytes-is (c .before))
+
+number-is : (c : tie.After-number) → let a = c .before .before .before .before .before .before .before .args in c .number .result ≡ unpackOf (fascnRead (a .self .opening .mode) (a .joined .now)) .0
+number-is c = c .number .ensures ∙ ap (λ (p : ℕ × List ℕ). p .0) (unpacked-is (c .before))
+
+date-is : (c : tie.After-read) → let a = c .before .before .before .before .before .before .before .before .before .before .args in dateAnswer (c .read .result) ≡ dateOf (fieldValue (kindAt (a .self .opening .mode) 1) 0x35 (a .joined .now))
+date-is c = rw (← c .before .before .before .before .before .before .kind-at .ensures, ← c .before .value2 .ensures) (c .read .ensures)
+
+date-number-is : (c : tie.After-number2) → let a = c .before .before .before .before .before .before .before .before .before .before .before .args in c .number2 .result ≡ dateOf (fieldValue (kindAt (a .self .opening .mode) 1) 0x35 (a .joined .now)) .0
+date-number-is c = c .number2 .ensures ∙ ap (λ (p : ℕ × ℕ). p .0) (date-is (c .before))
+
+expiry-is : (c : tie.After-date-number) → let a = c .before .before .before .before .before .before .before .before .before .before .before .before .before .args in c .date-number .result ≡ expiryRead (a .self .opening .mode) (a .joined .now)
+expiry-is c = c .date-number .ensures ∙ ap (λ (p : ℕ × ℕ). p .1) (date-is (c .before .before .before))
+
+key-is : (c : tie.After-key-of) → let a = c .before .before .before .before .before .before .before .before .before .before .before .before .before .before .before .args in c .key-of .result .0 ≡ keyRead (a .self .opening .mode) (a .joined .now)
+key-is c = c .key-of .ensures ∙ ap (λ (p : ℕ × List ℕ). keyOf (p .1)) (unpacked-is (c .before .before .before .before .before .before .before .before .before))
+
+value-requires : tie.Need-value-requires
+value-requires c κs = rw (c .kind-at .ensures, c .before .before .before .before .pre .1)
+
+returns : tie.Need-returns
+returns c = c .stopped .ensures ∙ sym (step1-fascn _ _ _ (c .before .before .before .before .before .before .before .before .before .pre .0) (c .before .before .before .before .before .before .before .before .before .pre .1) (number-is (c .before .before)) (c .before .if1 .taken))
+
+value-requires-2 : tie.Need-value-requires-2
+value-requires-2 c κs = rw (c .before .before .before .before .kind-at .ensures, c .before .before .before .before .before .before .before .before .pre .1)
+
+returns-2 : tie.Need-returns-2
+returns-2 c =
+    c .stopped2 .ensures ∙ sym (step1-date _ _ _ (c .before .before .before .before .before .before .before .before .before .before .before .before .before .pre .0) (c .before .before .before .before .before .before .before .before .before .before .before .before .before .pre .1) (number-is (c .before .before .before .before .before .before)) (c .before .before .before .before .before .if1 .left) (date-number-is (c .before .before)) (c .before .if2 .taken))
+
+array-25-requires : tie.Need-array-25-requires
+array-25-requires c κs =
+    let e : unpackOf (now (c .before .before .before .before .before .before .before .before .before .before .before .before .value .result)) .0 ≡ 0 = rw (← c .before .before .before .before .before .before .before .before .before .before .before .unpack .ensures) (sym (c .before .before .before .before .before .before .before .before .before .before .number .ensures) ∙ c .before .before .before .before .before .before .before .before .before .if1 .left) in
+    well-formed _ e .long
+
+returns-3 : tie.Need-returns-3
+unfolding goodEndSession
+returns-3 c =
+    let at = c .before .before .before .before .before .before .before .before .before in
+    let a = at .before .before .before .before .before .before .before .before .before .before .before .before .args in
+    let p = at .before .before .before .before .before .before .before .before .before .before .before .before .pre in
+    let good = step1-good (a .self) (a .joined .now) (a .cancelled .now) (p .0) (p .1) (number-is (at .before .before .before .before .before)) (at .before .before .before .before .if1 .left) (date-number-is (at .before)) (at .if2 .left) in
+    let outcomes = c .before .before .before .before .judged-outcomes .ensures in
+    rw (good, p .0, c .before .at-step .ensures, c .before .before .step-after .ensures, outcomes, key-is (c .before .before .before .before .before .before), c .before .before .before .array-25 .ensures, bytes-is (at .before .before .before .before .before .before .before), expiry-is (c .before .before .before .before .before .before .before .before), p .1)
+
+pub judge-step1-spec : {M : Type 1} → statement M
+judge-step1-spec =
+    tie.close
+    (tie.spec
+    (λ c κs. search needs) value-requires (λ c κs. search needs) (λ c κs. search needs) (λ c κs. search needs) returns value-requires-2
+    (λ c κs. search needs) (λ c κs. search needs) (λ c κs. search needs) returns-2 (λ c κs. search needs) (λ c κs. search needs)
+    (λ c κs. search needs) array-25-requires (λ c κs. search needs) (λ c κs. search needs) returns-3)
