@@ -95,7 +95,7 @@ part-in-range s step tag e = by-step (eqb step 2) (kindAt (s .opening .mode) ste
 
 -- ---- the values by themselves
 
--- what their test yesNo is said of the session that they are of
+-- what their test says is said of the session that they are of
 pub values-say : (s : Session) {v : Values} {r : Bool} → v ≡ valuesOf s → r ≡ not (valuesInRange v) → r ≡ outOfRange s
 unfolding inRange valuesOf valuesInRange
 values-say s e f = f ∙ ap (λ (x : Values). not (valuesInRange x)) e

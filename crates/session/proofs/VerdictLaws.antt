@@ -88,7 +88,7 @@ on-verdict r m kind yesNo fascn i e =
       judged = judged-on (r .opening) (r .outcomes) (r .found) kind yesNo fascn (i .judged) good bit needed;
     }
 
--- the session that has heard it stands for the reading that has
+-- the session that has taken it stands for the reading that has
 pub verdict-taken-session : (r : Reading) (kind yesNo : ℕ) (fascn : List ℕ) → verdictTakenSession (session-of r) kind yesNo fascn ≡ session-of (verdictTaken r kind yesNo fascn)
 unfolding verdictTakenSession
 verdict-taken-session r kind yesNo fascn = refl
