@@ -12,7 +12,7 @@ use Rattle.card.specs.Lists.{overPlaces}
 use Rattle.card.specs.Command.{statusOf}
 use Rattle.card.specs.declared.command.Status.{Status}
 use Rattle.card.specs.declared.command.Status.the-variants.{Done, More, Other}
-use Rattle.session.specs.Tables.{baseOf, objectSize, isResponse, joinedCause}
+use Rattle.session.specs.Tables.{baseOf, capacity, objectSize, isResponse, joinedCause}
 use Rattle.session.specs.Condition.{answerConditions}
 use Rattle.session.specs.Reading.{Found, Reading, withProgress, answerRefused, stopped, continued, judged, appended, causeBy, answerTaken}
 use Rattle.session.specs.Ranges.{causeInRange}
@@ -23,9 +23,10 @@ use Rattle.session.proofs.TestLaws.{clash, and-left, and-right, by-test
 use Rattle.session.proofs.ConditionLaws.{none-fit}
 use Rattle.session.proofs.RuleLaws.{rule-in-range, rule-fits, joined-in-range}
 use Rattle.session.proofs.BytesLaws.{append-bytes}
-use Rattle.session.proofs.Invariant.{session-of, progress-of, Held, GoodOne, OneHeld, TwoHeld, Stage, Invariant, StandsFor}
+use Rattle.session.proofs.Invariant.{next-same, session-of, progress-of, Held, GoodOne, OneHeld, TwoHeld, Stage, Invariant, StandsFor}
 use Rattle.session.proofs.InRangeLaws.{in-range}
-use Rattle.session.proofs.BufferLaws.{holds-more, holds-still, before-stays, stored-length, base-most}
+use Rattle.session.proofs.FigureLaws.{base-fits, steps-apart}
+use Rattle.session.proofs.BufferLaws.{holds-more, before-stays, stored-length}
 use Rattle.session.proofs.GoodEndLaws.{Leaves, good-end}
 use Rattle.session.specs.declared.state.Session.{Session}
 
@@ -39,17 +40,18 @@ shown-none : (b : Bool) → cond {A = ℕ} b 0 0 ≡ 0
 shown-none true = refl
 shown-none false = refl
 
-stops : (r : Reading) (m m′ : List ℕ) (k sw1 sw2 : ℕ) → Invariant r m → Leaves r m′ → r .progress .step < 3 → causeInRange k ≡ true
+stops : (r : Reading) (m m′ xs : List ℕ) (k sw1 sw2 : ℕ) → Invariant r m → Leaves r m′ → r .progress .step < 3
+    → length xs ≤ capacity (r .opening .mode) (r .progress .step) → Bytes xs → take (length xs) (drop (baseOf (r .progress .step)) m′) ≡ xs → causeInRange k ≡ true
     → statusShown k sw1 ≡ sw1 → statusShown k sw2 ≡ sw2
-    → StandsFor (withSessionProgress (session-of r) (progressStopped (progress-of (r .progress)) k sw1 sw2)) m′ (withProgress r (stopped (r .progress) k sw1 sw2))
-stops r m m′ k sw1 sw2 i l lt c p q =
+    → StandsFor (withSessionProgress (session-of r) (progressStopped (progress-of (r .progress)) (length xs) k sw1 sw2)) m′ (withProgress r (stopped (r .progress) xs k sw1 sw2))
+stops r m m′ xs k sw1 sw2 i l lt small b held c p q =
     record {
       object = m′;
       same = refl;
       holds = record {
         opening = i .opening;
-        progress-good = record { step = i .progress-good .step; filled = i .progress-good .filled; cause = c; outstanding = refl; no-cause = λ e. absurd (omega arith); shown1 = p; shown2 = q; bytes = i .progress-good .bytes };
-        held = l .held;
+        progress-good = record { step = i .progress-good .step; filled = small; cause = c; outstanding = refl; no-cause = λ e. absurd (omega arith); shown1 = p; shown2 = q; bytes = b };
+        held = held;
         one = l .one;
         two = l .two;
         stage = i .stage;
@@ -59,7 +61,7 @@ stops r m m′ k sw1 sw2 i l lt c p q =
 
 -- ---- the joined data is judged
 
-judges : (r : Reading) (m m′ : List ℕ) (xs cancelled : List ℕ) → Invariant r m → Leaves r m′ → r .progress .step < 3 → length xs ≤ 4096 → Bytes xs
+judges : (r : Reading) (m m′ : List ℕ) (xs cancelled : List ℕ) → Invariant r m → Leaves r m′ → r .progress .step < 3 → length xs ≤ capacity (r .opening .mode) (r .progress .step) → Bytes xs
     → take (length xs) (drop (baseOf (r .progress .step)) m′) ≡ xs
     → StandsFor (judgedSession (session-of r) xs cancelled) m′ (judged r xs cancelled)
 unfolding judgedSession judged
@@ -67,7 +69,7 @@ judges r m m′ xs cancelled i l lt small b held =
     let k = joinedCause (r .opening .mode) (r .progress .step) xs in
     by-test (λ (s : Session) (q : Reading). StandsFor s m′ q) _ _ _ _ (eqb (joinedCause (r .opening .mode) (r .progress .step) xs) 0)
     (λ e. good-end r m m′ xs cancelled i l lt small b held (eqb-true _ 0 e))
-    (λ e. stops r m m′ k 0 0 i l lt (joined-in-range (r .opening .mode) (r .progress .step) xs) (shown-none (eqb k 16)) (shown-none (eqb k 16)))
+    (λ e. stops r m m′ xs k 0 0 i l lt small b held (joined-in-range (r .opening .mode) (r .progress .step) xs) (shown-none (eqb k 16)) (shown-none (eqb k 16)))
 
 -- ---- what an answer that is taken leaves in the buffer
 
@@ -76,25 +78,26 @@ keep-one : (mode step at : ℕ) (f : Found) (m xs : List ℕ) → Stage step f �
     → OneHeld mode (f .step1) (overPlaces m (baseOf step + at) xs)
 keep-one mode step at f m xs (Stage.early l n) lt room old = subst (λ (x : Found). OneHeld mode (x .step1) (overPlaces m (baseOf step + at) xs)) (sym n) tt
 keep-one mode step at f m xs (Stage.between e one n) lt room old =
-    let was : GoodOne mode one × Held (one .joined) m 0 = subst (λ (x : Found). OneHeld mode (x .step1) m) n old in
+    let was : GoodOne mode one × Held mode 1 (one .joined) m = subst (λ (x : Found). OneHeld mode (x .step1) m) n old in
     let k = was .1 in
-    let b : baseOf step ≡ 4096 = ap baseOf e in
-    let small : length (one .joined) ≤ 4096 = k .small in
+    let b : baseOf step ≡ baseOf 2 = ap baseOf e in
+    let apart = steps-apart mode in
+    let small = k .small in
     subst (λ (x : Found). OneHeld mode (x .step1) (overPlaces m (baseOf step + at) xs)) (sym n)
-    (was .0, record { whole = stored-length m xs (baseOf step + at) room ∙ k .whole; small = small; held = before-stays m xs (length (one .joined)) (baseOf step + at) (omega arith) (omega arith) ∙ k .held })
+    (was .0, record { whole = stored-length m xs (baseOf step + at) room ∙ k .whole; small = small; held = before-stays m xs (baseOf 1) (length (one .joined)) (baseOf step + at) (omega (arith, apart, small, b)) room ∙ k .held })
 keep-one mode step at f m xs (Stage.late e one n) lt room old = absurd (omega arith)
 
-keep-two : (step : ℕ) (f : Found) (m : List ℕ) → Stage step f → step < 3 → TwoHeld (f .step2) m
-keep-two step f m (Stage.early l n) lt = subst (λ (x : Found). TwoHeld (x .step2) m) (sym n) tt
-keep-two step f m (Stage.between e one n) lt = subst (λ (x : Found). TwoHeld (x .step2) m) (sym n) tt
-keep-two step f m (Stage.late e one n) lt = absurd (omega arith)
+keep-two : (mode step : ℕ) (f : Found) (m : List ℕ) → Stage step f → step < 3 → TwoHeld mode (f .step2) m
+keep-two mode step f m (Stage.early l n) lt = subst (λ (x : Found). TwoHeld mode (x .step2) m) (sym n) tt
+keep-two mode step f m (Stage.between e one n) lt = subst (λ (x : Found). TwoHeld mode (x .step2) m) (sym n) tt
+keep-two mode step f m (Stage.late e one n) lt = absurd (omega arith)
 
 leaves-same : (r : Reading) (m : List ℕ) → Invariant r m → length m ≡ objectSize → Leaves r m
-leaves-same r m i e = record { size = e; held = i .held; one = i .one; two = i .two }
+leaves-same r m i e = record { size = e; one = i .one; two = i .two }
 
 -- ---- rule 4
 
-module _ (r : Reading) (m xs : List ℕ) (i : Invariant r m) (size : length m ≡ objectSize) (lt : r .progress .step < 3) (fits : length (r .progress .joined) + length xs ≤ 4096) (bytes : Bytes xs) where
+module _ (r : Reading) (m xs : List ℕ) (i : Invariant r m) (size : length m ≡ objectSize) (lt : r .progress .step < 3) (fits : length (r .progress .joined) + length xs ≤ capacity (r .opening .mode) (r .progress .step)) (bytes : Bytes xs) where
   abbrev base : ℕ
   base = baseOf (r .progress .step)
 
@@ -102,11 +105,11 @@ module _ (r : Reading) (m xs : List ℕ) (i : Invariant r m) (size : length m �
   old = r .progress .joined
 
   room : base + length old + length xs ≤ length m
-  room = let low = base-most (r .progress .step) in omega (arith, low)
+  room = let low = base-fits (r .opening .mode) (r .progress .step) in omega (arith, low)
 
   leaves-more : Leaves r (overPlaces m (base + length old) xs)
   leaves-more =
-      record { size = stored-length m xs (base + length old) room ∙ size; held = holds-still m old xs base room (i .held); one = keep-one (r .opening .mode) (r .progress .step) (length old) (r .found) m xs (i .stage) lt room (i .one); two = keep-two (r .progress .step) (r .found) (overPlaces m (base + length old) xs) (i .stage) lt }
+      record { size = stored-length m xs (base + length old) room ∙ size; one = keep-one (r .opening .mode) (r .progress .step) (length old) (r .found) m xs (i .stage) lt room (i .one); two = keep-two (r .opening .mode) (r .progress .step) (r .found) (overPlaces m (base + length old) xs) (i .stage) lt }
 
   new-held : take (length (old ++ xs)) (drop base (overPlaces m (base + length old) xs)) ≡ old ++ xs
   new-held = rw length-append (holds-more m old xs base room (i .held))
@@ -153,10 +156,12 @@ pub takes-answer : (r : Reading) (m xs status cancelled : List ℕ) → Invarian
 unfolding answerTakenSession answerTakenBuffer answerTaken
 takes-answer r m xs status cancelled i size lt b =
     let st = statusOf status in
-    let k = causeBy (r .progress) 4096 st xs in
-    both _ _ _ _ _ _ (eqb k 0)
-    (λ e. appends r m xs i size lt (rule-fits st (isResponse (r .progress .next)) (length xs) (length (r .progress .joined)) 4096 (eqb-true k 0 e)) b st cancelled)
-    (λ e. stops r m m k _ _ i (leaves-same r m i size) lt (rule-in-range st (isResponse (r .progress .next)) (length xs) (length (r .progress .joined)) 4096) (shown-once (eqb k 16) (getD status 0 0)) (shown-once (eqb k 16) (getD status 1 0)))
+    let most = capacity (r .opening .mode) (r .progress .step) in
+    let k = causeBy (r .progress) most st xs in
+    rw (next-same (r .progress .next))
+    (both _ _ _ _ _ _ (eqb k 0)
+    (λ e. appends r m xs i size lt (rule-fits st (isResponse (r .progress .next)) (length xs) (length (r .progress .joined)) most (eqb-true k 0 e)) b st cancelled)
+    (λ e. stops r m m (r .progress .joined) k _ _ i (leaves-same r m i size) lt (i .progress-good .filled) (i .progress-good .bytes) (i .held) (rule-in-range st (isResponse (r .progress .next)) (length xs) (length (r .progress .joined)) most) (shown-once (eqb k 16) (getD status 0 0)) (shown-once (eqb k 16) (getD status 1 0))))
 
 -- ---- the call
 

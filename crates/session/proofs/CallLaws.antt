@@ -13,10 +13,10 @@ use Rattle.card.specs.Lists.{overFront}
 use Rattle.card.specs.Object.{bytesAt}
 use Rattle.card.specs.declared.object.Part.{Part}
 use Rattle.card.proofs.CommandLaws.{aid-most}
-use Rattle.session.specs.Tables.{objectSize, baseOf, stepOfTag, dataOf, statusBytes, stampSize}
-use Rattle.session.specs.Condition.{openConditions, answerConditions, stampConditions}
+use Rattle.session.specs.Tables.{objectSize, baseOf, stepRead, stepOfTag, statusSize, answerMost, dataOf, statusBytes, stampSize}
+use Rattle.session.specs.Condition.{openConditions, answerConditions, fieldRefused, stampConditions}
 use Rattle.session.specs.Ranges.{inRange, outOfRange}
-use Rattle.session.specs.Operation.{openRefusal, answerRefusal, answerTakenSession, answerTakenBuffer, answerOf, answerBuffer, stampIn, stampRefusal, stampBuffer, partFor, fieldRefusal, fieldOf}
+use Rattle.session.specs.Operation.{openRefusal, answerRefusal, answerTakenSession, answerTakenBuffer, answerOf, answerBuffer, stampIn, stampRefusal, stampBuffer, partFor, fieldOf}
 use Rattle.session.specs.declared.state.Session.{Session}
 use Rattle.session.proofs.TestLaws.{and-left, and-right, or-left, or-right}
 use Rattle.session.proofs.ConditionLaws.{none-fit}
@@ -51,15 +51,15 @@ open-fits mode date aid e = aid-most aid (none-fit (openConditions mode date aid
 pub record Fitting (s : Session) (size n : ℕ) : Type 0 where
   pub range : inRange s ≡ true
   pub whole : size ≡ objectSize
-  pub least : 2 ≤ n
-  pub most : n ≤ 258
+  pub least : statusSize ≤ n
+  pub most : n ≤ answerMost
 
 pub answer-fits : (s : Session) (size n : ℕ) → answerRefusal s size n ≡ 0 → Fitting s size n
 unfolding answerRefusal
 answer-fits s size n e =
     let c = none-fit ((4, outOfRange s) ∷ answerConditions (s .progress .outstanding) size n) refl e in
-    let h = not-false (leb 2 n && leb n 258) (c .1 .1 .1 .0) in
-    record { range = not-false _ (c .0); whole = eqb-true size objectSize (not-false _ (c .1 .1 .0)); least = leb-true 2 n (and-left (leb 2 n) (leb n 258) h); most = leb-true n 258 (and-right (leb 2 n) (leb n 258) h) }
+    let h = not-false (leb statusSize n && leb n answerMost) (c .1 .1 .1 .0) in
+    record { range = not-false _ (c .0); whole = eqb-true size objectSize (not-false _ (c .1 .1 .0)); least = leb-true statusSize n (and-left (leb statusSize n) (leb n answerMost) h); most = leb-true n answerMost (and-right (leb statusSize n) (leb n answerMost) h) }
 
 pub answer-taken : (s : Session) (object bytes cancelled : List ℕ) {n : ℕ} {x : Session} {m : List ℕ} → n ≡ answerRefusal s (length object) (length bytes) → n ≡ 0
     → x ≡ answerTakenSession s object (dataOf bytes) (statusBytes bytes) cancelled → m ≡ answerTakenBuffer s object (dataOf bytes) (statusBytes bytes)
@@ -74,32 +74,24 @@ answer-refused s object bytes cancelled e f =
 
 -- ---- field
 
--- the number that refuses a field call, by its two tests
-refusing : (a b : Bool) → a || b ≡ true → eqb (cond a 4 (cond b 7 0)) 0 ≡ false
-refusing true b e = refl
-refusing false true e = refl
-refusing false false e = sym e
-
-pub field-refused : (s : Session) (object : List ℕ) (tag : ℕ) → outOfRange s || not (eqb (length object) objectSize) ≡ true → [] ≡ fieldOf s object tag
-unfolding fieldOf fieldRefusal
-field-refused s object tag e = rw (refusing (outOfRange s) (not (eqb (length object) objectSize)) e)
-
--- a tag that no field call may ask for
-pub field-other : (s : Session) (object : List ℕ) (tag : ℕ) → stepOfTag tag ≡ 0 → [] ≡ fieldOf s object tag
+-- one of the tests fits
+pub field-refused : (s : Session) (object : List ℕ) (tag : ℕ) → outOfRange s || fieldRefused (s .opening .mode) (s .progress .step) (length object) tag ≡ true → [] ≡ fieldOf s object tag
 unfolding fieldOf
-field-other s object tag e = rw (eq-eqb _ _ e, and-false)
+field-refused s object tag e = rw e
 
--- a session in range, and a buffer of the right size
-pub field-accepted : (s : Session) (n : ℕ) → outOfRange s || not (eqb n objectSize) ≡ false → (inRange s ≡ true) × (n ≡ objectSize)
-field-accepted s n e = (
-  not-false (inRange s) (or-left (outOfRange s) (not (eqb n objectSize)) e),
-  eqb-true n objectSize (not-false (eqb n objectSize) (or-right (outOfRange s) (not (eqb n objectSize)) e)),
-)
+-- none fits: the session is in range, and the buffer has its size
+pub field-accepted : (s : Session) (n tag : ℕ) → outOfRange s || fieldRefused (s .opening .mode) (s .progress .step) n tag ≡ false → (inRange s ≡ true) × (n ≡ objectSize)
+field-accepted s n tag e =
+    let other = eqb (stepOfTag tag) 0 || not (stepRead (s .opening .mode) (s .progress .step) (stepOfTag tag)) in
+    let sized = not (eqb n objectSize) in (
+      not-false (inRange s) (or-left (outOfRange s) (sized || other) e),
+      eqb-true n objectSize (not-false (eqb n objectSize) (or-left sized other (or-right (outOfRange s) (sized || other) e))),
+    )
 
-pub field-read : (s : Session) (object : List ℕ) (tag : ℕ) → inRange s ≡ true → length object ≡ objectSize → (stepOfTag tag ≡ 0 → ⊥)
+pub field-read : (s : Session) (object : List ℕ) (tag : ℕ) → outOfRange s || fieldRefused (s .opening .mode) (s .progress .step) (length object) tag ≡ false
     → let step = stepOfTag tag in bytesAt (drop (baseOf step) object) (partFor s step tag) ≡ fieldOf s object tag
-unfolding fieldOf fieldRefusal
-field-read s object tag e n h = rw (e, eq-eqb _ _ n, ne-eqb (stepOfTag tag) 0 h)
+unfolding fieldOf
+field-read s object tag e = rw e
 
 -- a part of a step's data as a part of the object buffer
 pub part-in-buffer : (object : List ℕ) (base : ℕ) (p : Part) → take (base + p .start + p .len - (base + p .start)) (drop (base + p .start) object) ≡ bytesAt (drop base object) p

@@ -13,7 +13,7 @@ use lib.Seq.{take-at}
 use Rattle.card.specs.Lists.{overFront}
 use Rattle.card.specs.Date.{realDate}
 use Rattle.card.proofs.ListsLaws.{front-at}
-use Rattle.session.specs.Tables.{goodMode, stampSize}
+use Rattle.session.specs.Tables.{modeOpens, stampSize}
 use Rattle.session.specs.Condition.{openConditions}
 use Rattle.session.specs.Reading.{refusedBy}
 use Rattle.session.specs.Finding.{Finding, finding, standing, stampOf}
@@ -23,10 +23,11 @@ use Rattle.session.specs.declared.state.Session.{Session}
 use Rattle.session.specs.declared.state.Answered.{Answered}
 use Rattle.session.specs.declared.state.Commanded.{Commanded}
 use Rattle.session.proofs.TestLaws.{and-both}
+use Rattle.session.proofs.FigureLaws.{opens-in-range, stamp-long}
 use Rattle.session.proofs.ConditionLaws.{none-fit}
 use Rattle.session.proofs.StampLaws.{stamp-length, stamp-second}
 use Rattle.session.proofs.RunLaws.{zero-or, number-is}
-use Rattle.session.proofs.PromiseLaws.{reached, promise, apart}
+use Rattle.session.proofs.PromiseLaws.{reached, promise}
 
 -- ---- one call more
 
@@ -59,7 +60,7 @@ opening-good : (mode date : ℕ) (aid : List ℕ) → openRefusal mode date aid 
 unfolding openRefusal
 opening-good mode date aid e =
     let c = none-fit (openConditions mode date aid) refl e in
-    and-both (and-both (not-false (goodMode mode) (c .0)) (not-false (realDate date) (c .1 .0))) (rw (c .1 .1 .0))
+    and-both (and-both (opens-in-range mode (not-false (modeOpens mode) (c .0))) (not-false (realDate date) (c .1 .0))) (rw (c .1 .1 .0))
 
 -- it begins a history, with any object buffer
 pub opening-begins : (mode date : ℕ) (aid object : List ℕ) → openRefusal mode date aid ≡ 0 → OpenedBy (record { mode = mode; date = date; aid = aid }) (opened mode date aid) object
@@ -128,10 +129,11 @@ verdict-promise s kind yesNo fascn r e h es =
 -- ---- field
 
 pub field-promise : (s : Session) (object : List ℕ) (tag : ℕ) (value : List ℕ) → value ≡ fieldOf s object tag → FieldPromise s object tag value
-field-promise s object tag value e h es eo =
+field-promise s object tag value e h es =
     record {
-      value = e ∙ ap₂ (λ (x : Session) (l : List ℕ). fieldOf x l tag) es eo ∙ promise h .field-value tag;
-      extended = extended h (Call.field object tag) s object (λ z. eo) (ap₂ (λ (x : Session) (l : List ℕ). record { session = x; object = l }) (sym es) (sym eo));
+      value = λ eo. e ∙ ap₂ (λ (x : Session) (l : List ℕ). fieldOf x l tag) es eo ∙ promise h .field-value tag;
+      empty = λ z. e ∙ ap (λ (x : Session). fieldOf x object tag) es ∙ promise h .field-empty object tag z;
+      extended = extended h (Call.field object tag) s (finish h .object) tt (ap (λ (x : Session). record { session = x; object = finish h .object }) (sym es));
     }
 
 -- ---- stamp
@@ -154,8 +156,8 @@ stamp-promise s before left r e b h es =
     record {
       number = ap (λ (x : ℕ × Session). x .0) g ∙ p .stamp-number before;
       bytes = bytes;
-      granted = λ room. by-byte f (ap (λ (l : List ℕ). getD l 1 0) (written room) ∙ front-at (stampOf f) before 1 (omega (arith, size)) ∙ stamp-second f) (p .granted);
-      apart = λ room u. by-stamp f (finding (readingOf u)) (ap (take stampSize) (written room) ∙ front-take stampSize (stampOf f) before size) (apart h u .stamps);
+      granted = λ room. by-byte f (ap (λ (l : List ℕ). getD l 1 0) (written room) ∙ front-at (stampOf f) before 1 (omega (arith, size, stamp-long)) ∙ stamp-second f) (p .granted);
+      apart = λ room u. by-stamp f (finding (readingOf u)) (ap (take stampSize) (written room) ∙ front-take stampSize (stampOf f) before size) (p .apart u);
       extended = extended h (Call.stamp before) (r .session) (finish h .object) tt (ap (λ (x : ℕ × Session). record { session = x .1; object = finish h .object }) (sym g));
     }
   where

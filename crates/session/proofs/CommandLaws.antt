@@ -17,7 +17,7 @@ use Rattle.session.specs.Ranges.{stepInRange, causeInRange}
 use Rattle.session.specs.Operation.{commandIn, commandRefusal, commandOf, commandBuffer}
 use Rattle.session.proofs.TestLaws.{and-left, and-both, or-left, or-right}
 use Rattle.session.proofs.ConditionLaws.{none-fit}
-use Rattle.session.proofs.Invariant.{session-of, GoodProgress, Invariant}
+use Rattle.session.proofs.Invariant.{next-same, session-of, GoodProgress, Invariant}
 use Rattle.session.proofs.InRangeLaws.{in-range}
 
 -- the AID is what was given, without the zeros after it
@@ -27,7 +27,7 @@ aid-kept aid = take-append-seam aid (drop (length aid) (replicate 16 0))
 
 pub command-is : (r : Reading) → commandIn (session-of r) ≡ nextCommand r
 unfolding commandIn
-command-is r = rw (aid-kept (r .opening .aid))
+command-is r = rw (aid-kept (r .opening .aid), next-same (r .progress .next))
 
 pub command-number : (r : Reading) (m : List ℕ) (room : ℕ) → Invariant r m → commandRefusal (session-of r) room ≡ commandRefused r room
 unfolding commandRefusal commandRefused

@@ -1,6 +1,6 @@
--- At most 4,098 answers are taken in a step, and 12,294 in all, whatever the calls are: a law of the reading.
+-- At most 4,098 answers are taken in a step, and 12,294 in all (`answersMost`), whatever the calls are: a law of the reading.
 -- Assumes nothing.
-use mathlib.Core.Path.{_≡_, refl, sym, _∙_}
+use mathlib.Core.Path.{_≡_, refl, sym, ap, subst, _∙_}
 use mathlib.Core.Bool.{Bool, true, false, cond, _&&_, _||_}
 use mathlib.Core.List.{List, [], _∷_, _++_}
 use Prim.Native.Nat.{ℕ, zero, suc, _+_, _-_, _≤_, _<_}
@@ -12,13 +12,13 @@ use borrow.Author.Tests.{ltb-true, ltb-false, lt-ltb, le-ltb, eqb-true, eqb-fals
 use Rattle.card.specs.Command.{statusOf}
 use Rattle.card.specs.declared.command.Status.{Status}
 use Rattle.card.specs.declared.command.Status.the-variants.{Done, More, Other}
-use Rattle.session.specs.Tables.{ends, hasStep2, isResponse, dataOf, statusBytes, ruleCause, joinedCause}
+use Rattle.session.specs.Tables.{ends, hasStep2, capacity, answersMost, isResponse, dataOf, statusBytes, ruleCause, joinedCause}
 use Rattle.session.specs.Ranges.{causeInRange}
 use Rattle.session.specs.Condition.{commandConditions, answerConditions}
-use Rattle.session.specs.Reading.{Opening, Arguments, Progress, Reading, begins, atStep, nextCommand, commandRefused, sending, answerRefused, stopped, continued, goodEnd, judged, appended, causeBy, answerTaken, verdictRefused, verdictTaken, refusedBy, read, takes, answersIn, answers}
+use Rattle.session.specs.Reading.{Opening, Arguments, Progress, Reading, begins, atStep, nextCommand, commandRefused, sending, answerRefused, stopped, continued, step1End, step2End, goodEnd, judged, appended, causeBy, answerTaken, verdictRefused, verdictTaken, refusedBy, read, takes, answersIn, answers}
 use Rattle.session.proofs.TestLaws.{clash, or-left, or-right, either}
 use Rattle.session.proofs.ConditionLaws.{none-fit}
-use Rattle.session.proofs.RuleLaws.{rule-in-range, joined-in-range}
+use Rattle.session.proofs.RuleLaws.{rule-in-range, rule-fits, joined-in-range}
 
 -- a cause that did arise ends the reading
 arose-ends : (k : ℕ) → causeInRange k ≡ true → eqb k 0 ≡ false → ends k ≡ true
@@ -35,81 +35,85 @@ abbrev used : Progress → ℕ
 used c = asked c + cond (ends (c .cause)) 1 0
 
 -- how many may still be taken in step k, at step s with u used up
-unfoldable left : ℕ → ℕ → ℕ → ℕ
-left k s u = cond (ltb k s) 0 (cond (ltb s k) 4098 (4098 - u))
+unfoldable left : ℕ → ℕ → ℕ → ℕ → ℕ
+left mode k s u = cond (ltb k s) 0 (cond (ltb s k) (answersMost mode k) (answersMost mode k - u))
 
-left-most : (k s u : ℕ) → left k s u ≤ 4098
+left-most : (mode k s u : ℕ) → left mode k s u ≤ answersMost mode k
 unfolding left
-left-most k s u = either (λ (n : ℕ). n ≤ 4098) (ltb k s) (omega arith) (either (λ (n : ℕ). n ≤ 4098) (ltb s k) (omega arith) (omega arith))
+left-most mode k s u =
+    either (λ (n : ℕ). n ≤ answersMost mode k) (ltb k s) (omega arith) (either (λ (n : ℕ). n ≤ answersMost mode k) (ltb s k) (omega arith) (omega arith))
 
-left-past : (k s u : ℕ) → k < s → left k s u ≡ 0
+left-past : (mode k s u : ℕ) → k < s → left mode k s u ≡ 0
 unfolding left
-left-past k s u h = rw (lt-ltb k s h)
+left-past mode k s u h = rw (lt-ltb k s h)
 
-left-before : (k s u : ℕ) → s < k → left k s u ≡ 4098
+left-before : (mode k s u : ℕ) → s < k → left mode k s u ≡ answersMost mode k
 unfolding left
-left-before k s u h = rw (le-ltb k s (omega arith), lt-ltb s k h)
+left-before mode k s u h = rw (le-ltb k s (omega arith), lt-ltb s k h)
 
-left-at : (k s u : ℕ) → s ≡ k → left k s u ≡ 4098 - u
+left-at : (mode k s u : ℕ) → s ≡ k → left mode k s u ≡ answersMost mode k - u
 unfolding left
-left-at k s u h = rw (le-ltb k s (omega arith), le-ltb s k (omega arith))
+left-at mode k s u h = rw (le-ltb k s (omega arith), le-ltb s k (omega arith))
 
 -- an answer that is taken in step s uses some of it up, or leads to a later step
-data Onward (s u t v : ℕ) : Type 0 where
-  same : t ≡ s → u < v → v ≤ 4098 → Onward s u t v
-  later : s < t → u ≤ 4097 → Onward s u t v
+data Onward (mode s u t v : ℕ) : Type 0 where
+  same : t ≡ s → u < v → v ≤ answersMost mode s → Onward mode s u t v
+  later : s < t → u < answersMost mode s → Onward mode s u t v
 
 -- so that one fewer is left
-left-falls : (k s u t v : ℕ) → Onward s u t v → cond (eqb s k) 1 0 + left k t v ≤ left k s u
-left-falls k s u t v o = go (ltb k s) (ltb s k) refl refl o
+left-falls : (mode k s u t v : ℕ) → Onward mode s u t v → cond (eqb s k) 1 0 + left mode k t v ≤ left mode k s u
+left-falls mode k s u t v o = go (ltb k s) (ltb s k) refl refl o
   where
-    go : (x y : Bool) → ltb k s ≡ x → ltb s k ≡ y → Onward s u t v → cond (eqb s k) 1 0 + left k t v ≤ left k s u
+    go : (x y : Bool) → ltb k s ≡ x → ltb s k ≡ y → Onward mode s u t v → cond (eqb s k) 1 0 + left mode k t v ≤ left mode k s u
     go true y p q (Onward.same e l m) =
         let h = ltb-true k s p in
-        rw (left-past k s u h, left-past k t v (omega arith), ne-eqb s k (λ z. omega arith)) (omega arith)
+        rw (left-past mode k s u h, left-past mode k t v (omega arith), ne-eqb s k (λ z. omega arith)) (omega arith)
     go true y p q (Onward.later l m) =
         let h = ltb-true k s p in
-        rw (left-past k s u h, left-past k t v (omega arith), ne-eqb s k (λ z. omega arith)) (omega arith)
+        rw (left-past mode k s u h, left-past mode k t v (omega arith), ne-eqb s k (λ z. omega arith)) (omega arith)
     go false true p q a =
         let h = ltb-true s k q in
-        let most = left-most k t v in
-        rw (left-before k s u h, ne-eqb s k (λ z. omega arith)) (omega arith)
+        let most = left-most mode k t v in
+        rw (left-before mode k s u h, ne-eqb s k (λ z. omega arith)) (omega arith)
     go false false p q (Onward.same e l m) =
         let h : s ≡ k = le-antisymm (ltb-false k s p) (ltb-false s k q) in
-        rw (left-at k s u h, left-at k t v (e ∙ h), eq-eqb s k h) (omega arith)
+        let z : answersMost mode s ≡ answersMost mode k = ap (answersMost mode) h in
+        rw (left-at mode k s u h, left-at mode k t v (e ∙ h), eq-eqb s k h) (omega arith)
     go false false p q (Onward.later l m) =
         let h : s ≡ k = le-antisymm (ltb-false k s p) (ltb-false s k q) in
-        rw (left-at k s u h, left-past k t v (omega arith), eq-eqb s k h) (omega arith)
+        let z : answersMost mode s ≡ answersMost mode k = ap (answersMost mode) h in
+        rw (left-at mode k s u h, left-past mode k t v (omega arith), eq-eqb s k h) (omega arith)
 
 -- ---- a call
 
-abbrev budget : ℕ → Progress → ℕ
-budget k c = left k (c .step) (used c)
+abbrev budget : ℕ → ℕ → Progress → ℕ
+budget mode k c = left mode k (c .step) (used c)
 
--- what the count asks of the course of a reading
-record Countable (c : Progress) : Type 0 where
+-- what the count asks of the progress of a reading
+record Countable (mode : ℕ) (c : Progress) : Type 0 where
   low : c .step ≤ 3
-  small : length (c .joined) ≤ 4096
+  small : length (c .joined) ≤ capacity mode (c .step)
   sent : c .outstanding ≡ true → (c .step < 3) × (ends (c .cause) ≡ false)
 
--- a call that takes an answer or none leads from one course to another
-record Spends (b : Bool) (c d : Progress) : Type 0 where
-  counts : Countable d
-  falls : (k : ℕ) → cond (b && eqb (c .step) k) 1 0 + budget k d ≤ budget k c
+-- a call that takes an answer or none, before and after it
+record Spends (mode : ℕ) (b : Bool) (c d : Progress) : Type 0 where
+  counts : Countable mode d
+  falls : (k : ℕ) → cond (b && eqb (c .step) k) 1 0 + budget mode k d ≤ budget mode k c
 
-spends-none : (c : Progress) → Countable c → Spends false c c
-spends-none c h = record { counts = h; falls = λ k. omega arith }
+spends-none : (mode : ℕ) (c : Progress) → Countable mode c → Spends mode false c c
+spends-none mode c h = record { counts = h; falls = λ k. omega arith }
 
 -- a refused call changes nothing
-by-call : (x : Bool) (r q : Reading) (b : Bool) → Countable (r .progress) → (b ≡ true → Spends x (r .progress) (q .progress)) → Spends (x && b) (r .progress) ((cond b q r) .progress)
+by-call : (x : Bool) (r q : Reading) (b : Bool) → Countable (r .opening .mode) (r .progress) → (b ≡ true → Spends (r .opening .mode) x (r .progress) (q .progress))
+    → Spends (r .opening .mode) (x && b) (r .progress) ((cond b q r) .progress)
 by-call true r q true h f = f refl
 by-call false r q true h f = f refl
-by-call true r q false h f = spends-none (r .progress) h
-by-call false r q false h f = spends-none (r .progress) h
+by-call true r q false h f = spends-none (r .opening .mode) (r .progress) h
+by-call false r q false h f = spends-none (r .opening .mode) (r .progress) h
 
 -- ---- a command
 
-sending-none : (r : Reading) (room : ℕ) → Countable (r .progress) → commandRefused r room ≡ 0 → Spends false (r .progress) (sending (r .progress))
+sending-none : (r : Reading) (room : ℕ) → Countable (r .opening .mode) (r .progress) → commandRefused r room ≡ 0 → Spends (r .opening .mode) false (r .progress) (sending (r .progress))
 unfolding commandRefused
 sending-none r room h e =
     let c = r .progress in
@@ -124,8 +128,8 @@ sending-none r room h e =
 
 -- ---- an answer
 
-asked-most : (c : Progress) → Countable c → asked c ≤ 4097
-asked-most c h = let l = h .small in either (λ (n : ℕ). n ≤ 4097) (isResponse (c .next)) (omega arith) (omega arith)
+asked-most : (mode : ℕ) (c : Progress) → Countable mode c → asked c ≤ capacity mode (c .step) + 1
+asked-most mode c h = let l = h .small in either (λ (n : ℕ). n ≤ capacity mode (c .step) + 1) (isResponse (c .next)) (omega arith) (omega arith)
 
 -- an answer that is appended and after which more data is asked for: it is the first of its step, or it brings a byte
 rule-brings : (second : ℕ) (response : Bool) (n total most : ℕ) → ruleCause (More second) response n total most ≡ 0
@@ -140,38 +144,49 @@ rule-brings second response n total most e =
     go true true p q = clash (sym q)
     go false true p q = let z = eqb-false n 0 p in omega arith
 
-module _ (r : Reading) (h : Countable (r .progress)) (below : r .progress .step < 3) (no-cause : ends (r .progress .cause) ≡ false) where
-  stops : (k a b : ℕ) → causeInRange k ≡ true → eqb k 0 ≡ false → Spends true (r .progress) (stopped (r .progress) k a b)
-  stops k a b p q =
-      let most = asked-most (r .progress) h in
+module _ (r : Reading) (h : Countable (r .opening .mode) (r .progress)) (below : r .progress .step < 3) (no-cause : ends (r .progress .cause) ≡ false) where
+  -- what is asked for does not fall as the joined data grows
+  asked-grows : (joined : List ℕ) → length (r .progress .joined) ≤ length joined → asked (r .progress) ≤ cond (isResponse (r .progress .next)) (length joined + 1) 0
+  asked-grows joined l = go (isResponse (r .progress .next))
+    where
+      go : (b : Bool) → cond b (length (r .progress .joined) + 1) 0 ≤ cond b (length joined + 1) 0
+      go true = omega arith
+      go false = omega arith
+
+  stops : (joined : List ℕ) (k a b : ℕ) → length (r .progress .joined) ≤ length joined → length joined ≤ capacity (r .opening .mode) (r .progress .step) → causeInRange k ≡ true
+      → eqb k 0 ≡ false → Spends (r .opening .mode) true (r .progress) (stopped (r .progress) joined k a b)
+  stops joined k a b l m p q =
+      let counts : Countable (r .opening .mode) (stopped (r .progress) joined k a b) = record { low = h .low; small = m; sent = λ z. clash z } in
+      let most = asked-most (r .opening .mode) (stopped (r .progress) joined k a b) counts in
+      let grows = asked-grows joined l in
       let e = arose-ends k p q in
       record {
-        counts = record { low = h .low; small = h .small; sent = λ z. clash z };
-        falls = λ n. left-falls n _ _ _ _ (Onward.same refl (rw (no-cause, e) (omega arith)) (rw e (omega arith)));
+        counts = counts;
+        falls = λ n. left-falls (r .opening .mode) n _ _ _ _ (Onward.same refl (rw (no-cause, e) (omega (arith, grows))) (rw e (omega (arith, most))));
       }
 
-  moves : (s : ℕ) → r .progress .step < s → s ≤ 3 → Spends true (r .progress) (atStep s)
+  moves : (s : ℕ) → r .progress .step < s → s ≤ 3 → Spends (r .opening .mode) true (r .progress) (atStep s)
   moves s l m =
-      let most = asked-most (r .progress) h in
+      let most = asked-most (r .opening .mode) (r .progress) h in
       record {
         counts = record { low = m; small = omega arith; sent = λ z. clash z };
-        falls = λ n. left-falls n _ _ _ _ (Onward.later l (rw no-cause (omega arith)));
+        falls = λ n. left-falls (r .opening .mode) n _ _ _ _ (Onward.later l (rw no-cause (omega arith)));
       }
 
-  continues : (joined : List ℕ) (second : ℕ) → asked (r .progress) < length joined + 1 → length joined ≤ 4096
-      → Spends true (r .progress) (continued (r .progress) joined second)
+  continues : (joined : List ℕ) (second : ℕ) → asked (r .progress) < length joined + 1 → length joined ≤ capacity (r .opening .mode) (r .progress .step)
+      → Spends (r .opening .mode) true (r .progress) (continued (r .progress) joined second)
   continues joined second l m =
       record {
         counts = record { low = h .low; small = m; sent = λ z. clash z };
-        falls = λ n. left-falls n _ _ _ _ (Onward.same refl (rw no-cause (omega arith)) (omega arith));
+        falls = λ n. left-falls (r .opening .mode) n _ _ _ _ (Onward.same refl (rw no-cause (omega arith)) (omega arith));
       }
 
-  choose : (q p : Reading) (b : Bool) → (b ≡ true → Spends true (r .progress) (q .progress)) → (b ≡ false → Spends true (r .progress) (p .progress))
-      → Spends true (r .progress) ((cond b q p) .progress)
+  choose : (q p : Reading) (b : Bool) → (b ≡ true → Spends (r .opening .mode) true (r .progress) (q .progress)) → (b ≡ false → Spends (r .opening .mode) true (r .progress) (p .progress))
+      → Spends (r .opening .mode) true (r .progress) ((cond b q p) .progress)
   choose q p true f g = f refl
   choose q p false f g = g refl
 
-  ends-well : (joined cancelled : List ℕ) → Spends true (r .progress) (goodEnd r joined cancelled .progress)
+  ends-well : (joined cancelled : List ℕ) → Spends (r .opening .mode) true (r .progress) (goodEnd r joined cancelled .progress)
   unfolding goodEnd
   ends-well joined cancelled =
       choose _ _ (eqb (r .progress .step) 0) (λ e. moves 1 (let z = eqb-true (r .progress .step) 0 e in omega arith) (omega arith))
@@ -179,26 +194,34 @@ module _ (r : Reading) (h : Countable (r .progress)) (below : r .progress .step 
       (λ e. let z = eqb-true (r .progress .step) 1 e in let t = either (λ (n : ℕ). (1 < n) × (n ≤ 3)) (hasStep2 (r .opening .mode)) {x = 2} {y = 3} (omega arith, omega arith) (omega arith, omega arith) in moves _ (rw z (t .0)) (t .1))
       (λ _. moves 3 below (omega arith)))
 
-  judges : (joined cancelled : List ℕ) → Spends true (r .progress) (judged r joined cancelled .progress)
+  judges : (joined cancelled : List ℕ) → length (r .progress .joined) ≤ length joined → length joined ≤ capacity (r .opening .mode) (r .progress .step)
+      → Spends (r .opening .mode) true (r .progress) (judged r joined cancelled .progress)
   unfolding judged
-  judges joined cancelled =
+  judges joined cancelled l m =
       let k = joinedCause (r .opening .mode) (r .progress .step) joined in
-      choose _ _ (eqb k 0) (λ _. ends-well joined cancelled) (λ e. stops k 0 0 (joined-in-range (r .opening .mode) (r .progress .step) joined) e)
+      choose _ _ (eqb k 0) (λ _. ends-well joined cancelled) (λ e. stops joined k 0 0 l m (joined-in-range (r .opening .mode) (r .progress .step) joined) e)
 
-  appends : (status : Status) (bytes cancelled : List ℕ) → causeBy (r .progress) 4096 status bytes ≡ 0
-      → Spends true (r .progress) (appended status r (r .progress .joined ++ bytes) cancelled .progress)
+  joins : (status : Status) (bytes cancelled : List ℕ) → causeBy (r .progress) (capacity (r .opening .mode) (r .progress .step)) status bytes ≡ 0
+      → Spends (r .opening .mode) true (r .progress) (judged r (r .progress .joined ++ bytes) cancelled .progress)
+  joins status bytes cancelled e =
+      let n = length-append (r .progress .joined) bytes in
+      let f = rule-fits status (isResponse (r .progress .next)) (length bytes) (length (r .progress .joined)) (capacity (r .opening .mode) (r .progress .step)) e in
+      judges (r .progress .joined ++ bytes) cancelled (omega (arith, n)) (omega (arith, n, f))
+
+  appends : (status : Status) (bytes cancelled : List ℕ) → causeBy (r .progress) (capacity (r .opening .mode) (r .progress .step)) status bytes ≡ 0
+      → Spends (r .opening .mode) true (r .progress) (appended status r (r .progress .joined ++ bytes) cancelled .progress)
   appends (More second) bytes cancelled e =
-      let f = rule-brings second (isResponse (r .progress .next)) (length bytes) (length (r .progress .joined)) 4096 e in
+      let f = rule-brings second (isResponse (r .progress .next)) (length bytes) (length (r .progress .joined)) (capacity (r .opening .mode) (r .progress .step)) e in
       continues _ second (rw length-append (f .0)) (rw length-append (f .1))
-  appends Done bytes cancelled e = judges (r .progress .joined ++ bytes) cancelled
-  appends Other bytes cancelled e = judges (r .progress .joined ++ bytes) cancelled
+  appends Done bytes cancelled e = joins Done bytes cancelled e
+  appends Other bytes cancelled e = joins Other bytes cancelled e
 
-  answers-one : (bytes status cancelled : List ℕ) → Spends true (r .progress) (answerTaken r bytes status cancelled .progress)
+  answers-one : (bytes status cancelled : List ℕ) → Spends (r .opening .mode) true (r .progress) (answerTaken r bytes status cancelled .progress)
   unfolding answerTaken
   answers-one bytes status cancelled =
-      let k = causeBy (r .progress) 4096 (statusOf status) bytes in
+      let k = causeBy (r .progress) (capacity (r .opening .mode) (r .progress .step)) (statusOf status) bytes in
       choose _ _ (eqb k 0) (λ e. appends (statusOf status) bytes cancelled (eqb-true k 0 e))
-      (λ e. stops k _ _ (rule-in-range (statusOf status) (isResponse (r .progress .next)) (length bytes) (length (r .progress .joined)) 4096) e)
+      (λ e. stops (r .progress .joined) k _ _ (omega arith) (h .small) (rule-in-range (statusOf status) (isResponse (r .progress .next)) (length bytes) (length (r .progress .joined)) (capacity (r .opening .mode) (r .progress .step))) e)
 
 -- an answer is taken only where a command is outstanding
 taken-sent : (r : Reading) (size n : ℕ) → answerRefused r size n ≡ 0 → r .progress .outstanding ≡ true
@@ -207,7 +230,7 @@ taken-sent r size n e = not-false (r .progress .outstanding) (none-fit (answerCo
 
 -- ---- every call, and every list of calls
 
-spends : (r : Reading) (t : Arguments) → Countable (r .progress) → Spends (takes r t) (r .progress) (read r t .progress)
+spends : (r : Reading) (t : Arguments) → Countable (r .opening .mode) (r .progress) → Spends (r .opening .mode) (takes r t) (r .progress) (read r t .progress)
 unfolding read
 spends r (Arguments.command room) h =
     by-call false r _ (eqb (commandRefused r room) 0) h (λ e. sending-none r room h (eqb-true (commandRefused r room) 0 e))
@@ -216,20 +239,54 @@ spends r (Arguments.answer size bytes cancelled) h =
     by-call true r _ (eqb k 0) h
     (λ e. let s = h .sent (taken-sent r size (length bytes) (eqb-true k 0 e)) in answers-one r h (s .0) (s .1) (dataOf bytes) (statusBytes bytes) cancelled)
 spends r (Arguments.verdict kind yesNo fascn) h =
-    by-call false r (verdictTaken r kind yesNo fascn) (eqb (verdictRefused r kind yesNo fascn) 0) h (λ e. spends-none (r .progress) h)
-spends r (Arguments.field size tag) h = by-call false r r (eqb (refusedBy r (Arguments.field size tag)) 0) h (λ e. spends-none (r .progress) h)
-spends r (Arguments.stamp room) h = by-call false r r (eqb (refusedBy r (Arguments.stamp room)) 0) h (λ e. spends-none (r .progress) h)
+    by-call false r (verdictTaken r kind yesNo fascn) (eqb (verdictRefused r kind yesNo fascn) 0) h (λ e. spends-none (r .opening .mode) (r .progress) h)
+spends r (Arguments.field size tag) h = by-call false r r (eqb (refusedBy r (Arguments.field size tag)) 0) h (λ e. spends-none (r .opening .mode) (r .progress) h)
+spends r (Arguments.stamp room) h = by-call false r r (eqb (refusedBy r (Arguments.stamp room)) 0) h (λ e. spends-none (r .opening .mode) (r .progress) h)
 
-count : (k : ℕ) (ts : List Arguments) (r : Reading) → Countable (r .progress) → answersIn k r ts ≤ budget k (r .progress)
+-- no call changes the mode
+abbrev Stays : Reading → Reading → Type 0
+Stays r q = q .opening .mode ≡ r .opening .mode
+
+judged-stays : (r : Reading) (joined cancelled : List ℕ) → Stays r (judged r joined cancelled)
+unfolding judged goodEnd
+judged-stays r joined cancelled =
+    either (Stays r) (eqb (joinedCause (r .opening .mode) (r .progress .step) joined) 0)
+    (either (Stays r) (eqb (r .progress .step) 0) refl (either (Stays r) (eqb (r .progress .step) 1) {x = step1End r joined cancelled} {y = step2End r joined} refl refl)) refl
+
+appended-stays : (status : Status) (r : Reading) (joined cancelled : List ℕ) → Stays r (appended status r joined cancelled)
+appended-stays (More second) r joined cancelled = refl
+appended-stays Done r joined cancelled = judged-stays r joined cancelled
+appended-stays Other r joined cancelled = judged-stays r joined cancelled
+
+answer-stays : (r : Reading) (bytes status cancelled : List ℕ) → Stays r (answerTaken r bytes status cancelled)
+unfolding answerTaken
+answer-stays r bytes status cancelled =
+    let k = causeBy (r .progress) (capacity (r .opening .mode) (r .progress .step)) (statusOf status) bytes in
+    either (Stays r) (eqb k 0) (appended-stays (statusOf status) r (r .progress .joined ++ bytes) cancelled) refl
+
+mode-stays : (r : Reading) (t : Arguments) → Stays r (read r t)
+unfolding read
+mode-stays r (Arguments.command room) = either (Stays r) (eqb (commandRefused r room) 0) refl refl
+mode-stays r (Arguments.answer size bytes cancelled) =
+    either (Stays r) (eqb (answerRefused r size (length bytes)) 0) (answer-stays r (dataOf bytes) (statusBytes bytes) cancelled) refl
+mode-stays r (Arguments.verdict kind yesNo fascn) = either (Stays r) (eqb (verdictRefused r kind yesNo fascn) 0) {x = verdictTaken r kind yesNo fascn} refl refl
+mode-stays r (Arguments.field size tag) = refl
+mode-stays r (Arguments.stamp room) = either (Stays r) (eqb (refusedBy r (Arguments.stamp room)) 0) refl refl
+
+countable-on : (r : Reading) (t : Arguments) → Countable (r .opening .mode) (read r t .progress) → Countable (read r t .opening .mode) (read r t .progress)
+countable-on r t c = subst (λ (n : ℕ). Countable n (read r t .progress)) (sym (mode-stays r t)) c
+
+count : (k : ℕ) (ts : List Arguments) (r : Reading) → Countable (r .opening .mode) (r .progress) → answersIn k r ts ≤ budget (r .opening .mode) k (r .progress)
 count k [] r h = omega arith
 count k (t ∷ ts) r h =
     let s = spends r t h in
     let here = s .falls k in
-    let there = count k ts (read r t) (s .counts) in
+    let there : answersIn k (read r t) ts ≤ budget (r .opening .mode) k (read r t .progress) =
+    subst (λ (n : ℕ). answersIn k (read r t) ts ≤ budget n k (read r t .progress)) (mode-stays r t) (count k ts (read r t) (countable-on r t (s .counts))) in
     omega (arith, here, there)
 
 -- a taken answer is in step 0, 1 or 2
-takes-below : (r : Reading) (t : Arguments) → Countable (r .progress) → takes r t ≡ true → r .progress .step < 3
+takes-below : (r : Reading) (t : Arguments) → Countable (r .opening .mode) (r .progress) → takes r t ≡ true → r .progress .step < 3
 takes-below r (Arguments.command room) h e = clash e
 takes-below r (Arguments.answer size bytes cancelled) h e =
     h .sent (taken-sent r size (length bytes) (eqb-true (answerRefused r size (length bytes)) 0 e)) .0
@@ -244,23 +301,23 @@ one-of-three true (suc zero) f = omega arith
 one-of-three true (suc (suc zero)) f = omega arith
 one-of-three true (suc (suc (suc s))) f = absurd (let l = f refl in omega arith)
 
-by-steps : (ts : List Arguments) (r : Reading) → Countable (r .progress) → answers r ts ≤ answersIn 0 r ts + answersIn 1 r ts + answersIn 2 r ts
+by-steps : (ts : List Arguments) (r : Reading) → Countable (r .opening .mode) (r .progress) → answers r ts ≤ answersIn 0 r ts + answersIn 1 r ts + answersIn 2 r ts
 by-steps [] r h = omega arith
 by-steps (t ∷ ts) r h =
     let here = one-of-three (takes r t) (r .progress .step) (takes-below r t h) in
-    let there = by-steps ts (read r t) (spends r t h .counts) in
+    let there = by-steps ts (read r t) (countable-on r t (spends r t h .counts)) in
     omega (arith, here, there)
 
-begins-countable : (o : Opening) → Countable (begins o .progress)
+begins-countable : (o : Opening) → Countable (o .mode) (begins o .progress)
 begins-countable o = record { low = omega arith; small = omega arith; sent = λ z. clash z }
 
-pub answers-step : (step : ℕ) (o : Opening) (ts : List Arguments) → answersIn step (begins o) ts ≤ 4098
+pub answers-step : (step : ℕ) (o : Opening) (ts : List Arguments) → answersIn step (begins o) ts ≤ answersMost (o .mode) step
 answers-step step o ts =
     let most = count step ts (begins o) (begins-countable o) in
-    let all = left-most step 0 0 in
+    let all = left-most (o .mode) step 0 0 in
     omega (arith, most, all)
 
-pub answers-all : (o : Opening) (ts : List Arguments) → answers (begins o) ts ≤ 12294
+pub answers-all : (o : Opening) (ts : List Arguments) → let most = answersMost (o .mode) in answers (begins o) ts ≤ most 0 + most 1 + most 2
 answers-all o ts =
     let sum = by-steps ts (begins o) (begins-countable o) in
     let a = answers-step 0 o ts in

@@ -7,23 +7,19 @@ use mathlib.Core.List.{List, [], _++_}
 use Prim.Native.Nat.{ℕ}
 use native.Mathlib.Omega.{arith}
 use lib.Dec.{eqb}
-use lib.ListN.{length, drop, take-append-drop}
-use lib.Seq.{take-nil, drop-nil}
-use Rattle.card.specs.Refusal.{refusalOf}
+use lib.ListN.{length, drop, take-append-drop, length-drop}
+use lib.Seq.{take-nil, drop-nil, length-take-le}
+use borrow.Author.Tests.{eq-eqb, lt-ltb}
 use Rattle.card.specs.Object.{rowsOf, partIn, bytesAt, fieldPart, fieldValue}
 use Rattle.card.specs.declared.object.Kind.{Kind}
 use Rattle.card.specs.declared.object.Part.{Part}
 use Rattle.card.proofs.ObjectLaws.{part-inside, field-after}
-use Rattle.session.specs.Tables.{kindAt, baseOf, objectSize, isIn, step1Tags, step2Tags, stepOfTag}
-use Rattle.session.specs.Condition.{fieldConditions}
-use Rattle.session.specs.Reading.{StepOne, Reading, joinedOne, joinedTwo, joinedAt, fieldIn}
-use Rattle.session.specs.Operation.{noParts, fieldRefusal, partFor, fieldOf}
-use Rattle.session.proofs.Invariant.{parts-one, parts-two, session-of, Held, OneHeld, TwoHeld, Invariant}
+use Rattle.session.specs.Tables.{hasStep2, kindAt, baseOf, objectSize, isIn, step1Tags, step2Tags, stepOfTag, stepRead}
+use Rattle.session.specs.Reading.{StepOne, Found, Reading, joinedOne, joinedTwo, joinedAt, fieldIn}
+use Rattle.session.specs.Operation.{noParts, partFor, fieldOf}
+use Rattle.session.proofs.Invariant.{parts-one, parts-two, session-of, Held, OneHeld, TwoHeld, Stage, Invariant}
+use Rattle.session.proofs.TestLaws.{clash}
 use Rattle.session.proofs.InRangeLaws.{none-parts, in-range}
-
-pub field-number : (r : Reading) (m : List ℕ) (size : ℕ) → Invariant r m → fieldRefusal (session-of r) size ≡ refusalOf (fieldConditions size)
-unfolding fieldRefusal
-field-number r m size i = rw (in-range r m i)
 
 -- ---- a field that is not read
 
@@ -43,56 +39,105 @@ value-none : (k : Kind) (tag : ℕ) → fieldValue k tag [] ≡ []
 unfolding fieldValue
 value-none k tag = bytes-none (fieldPart k tag [])
 
-either : (b : Bool) (xs : List ℕ) → xs ≡ [] → cond b xs [] ≡ []
-either true xs e = e
-either false xs e = refl
+either : (b : Bool) (xs : List ℕ) → xs ≡ [] → cond b [] xs ≡ []
+either true xs e = refl
+either false xs e = e
 
-unread : (k : Kind) (tag : ℕ) (xs : List ℕ) (b : Bool) → cond b (bytesAt xs (partIn (rowsOf k) noParts tag)) [] ≡ fieldValue k tag []
+unread : (k : Kind) (tag : ℕ) (xs : List ℕ) (b : Bool) → cond b [] (bytesAt xs (partIn (rowsOf k) noParts tag)) ≡ fieldValue k tag []
 unfolding bytesAt
 unread k tag xs b = rw (value-none k tag) (either b _ (rw (part-none k tag)))
 
 -- ---- a field that is read
 
-value-kept : (k : Kind) (tag base : ℕ) (xs m : List ℕ) → Held xs m base → bytesAt (drop base m) (fieldPart k tag xs) ≡ fieldValue k tag xs
-value-kept k tag base xs m kept =
+abbrev is-some : {A : Type 0} → Option A → Bool
+is-some Option.none = false
+is-some (Option.some x) = true
+
+value-kept : {mode : ℕ} (k : Kind) (tag step : ℕ) (xs m : List ℕ) → Held mode step xs m → bytesAt (drop (baseOf step) m) (fieldPart k tag xs) ≡ fieldValue k tag xs
+value-kept k tag step xs m kept =
+    let base = baseOf step in
     let rest = drop (length xs) (drop base m) in
     let whole : xs ++ rest ≡ drop base m = ap (λ (l : List ℕ). l ++ rest) (sym (kept .held)) ∙ take-append-drop (length xs) (drop base m) in
     ap (λ (l : List ℕ). bytesAt l (fieldPart k tag xs)) (sym whole) ∙ field-after k tag xs rest
 
--- the buffer is of the right size
-abbrev right-size : List ℕ → Bool
-right-size m = eqb (refusalOf (fieldConditions (length m))) 0
+-- of data without the field, the field's part is empty
+part-empty : (k : Kind) (tag : ℕ) (xs : List ℕ) → fieldValue k tag xs ≡ [] → fieldPart k tag xs .len ≡ 0
+unfolding fieldValue bytesAt
+part-empty k tag xs e =
+    let p = fieldPart k tag xs in
+    let inside = part-inside k xs tag in
+    sym (length-take-le (p .len) (drop (p .start) xs) (omega (arith, inside, length-drop (p .start) xs))) ∙ ap length e
 
-sized : (m : List ℕ) → length m ≡ objectSize → right-size m ≡ true
-sized m e = rw e
+-- an empty part has no bytes, wherever it lies
+no-bytes : (p : Part) (xs : List ℕ) → p .len ≡ 0 → bytesAt xs p ≡ []
+unfolding bytesAt
+no-bytes p xs e = rw e
 
-one-value : (mode tag : ℕ) (one : Option StepOne) (m : List ℕ) → OneHeld mode one m
-    → cond (right-size m && true) (bytesAt m (partIn (rowsOf (kindAt mode 1)) (parts-one mode one) tag)) [] ≡ fieldValue (kindAt mode 1) tag (joinedOne one)
-one-value mode tag Option.none m k = unread (kindAt mode 1) tag m (right-size m && true)
-one-value mode tag (Option.some f) m k = rw (sized m (k .1 .whole)) (value-kept (kindAt mode 1) tag 0 (f .joined) m (k .1))
+-- ---- what is read by a step
 
-two-value : (mode tag : ℕ) (two : Option (List ℕ)) (m : List ℕ) → TwoHeld two m
-    → cond (right-size m && true) (bytesAt (drop 4096 m) (partIn (rowsOf (kindAt mode 2)) (parts-two mode two) tag)) [] ≡ fieldValue (kindAt mode 2) tag (joinedTwo two)
-two-value mode tag Option.none m k = unread (kindAt mode 2) tag (drop 4096 m) (right-size m && true)
-two-value mode tag (Option.some xs) m k = rw (sized m (k .whole)) (value-kept (kindAt mode 2) tag 4096 xs m k)
+-- step 1 once its data is kept, and step 2
+step1-read : (mode step : ℕ) (f : Found) (one : StepOne) → Stage step f → f .step1 ≡ Option.some one → stepRead mode step 1 ≡ true
+step1-read mode step f one (Stage.early l n) e = clash (sym (ap (λ (x : Found). is-some (x .step1)) n) ∙ ap is-some e)
+step1-read mode step f one (Stage.between l x n) e = rw (lt-ltb 1 step (omega arith))
+step1-read mode step f one (Stage.late l x n) e = rw (lt-ltb 1 step (omega arith))
+
+step2-read : (mode step : ℕ) (f : Found) (xs : List ℕ) → Stage step f → f .step2 ≡ Option.some xs → hasStep2 mode ≡ true → stepRead mode step 2 ≡ true
+step2-read mode step f xs (Stage.early l n) e h = clash (sym (ap (λ (x : Found). is-some (x .step2)) n) ∙ ap is-some e)
+step2-read mode step f xs (Stage.between l x n) e h = clash (sym (ap (λ (x : Found). is-some (x .step2)) n) ∙ ap is-some e)
+step2-read mode step f xs (Stage.late l x n) e h = rw (lt-ltb 2 step (omega arith), h)
 
 -- ---- the call
 
-none-asked : (b : Bool) (xs : List ℕ) → cond (b && false) xs [] ≡ []
-none-asked true xs = refl
-none-asked false xs = refl
+-- the tests of the call, where the step of the tag is known
+abbrev tested : ℕ → ℕ → List ℕ → ℕ → Bool
+tested mode step object k = not (eqb (length object) objectSize) || (eqb k 0 || not (stepRead mode step k))
+
+module _ (mode step tag : ℕ) (m : List ℕ) where
+  one-value : (f : Found) (one : Option StepOne) → Stage step f → f .step1 ≡ one → OneHeld mode one m
+      → cond (tested mode step m 1) [] (bytesAt (drop (baseOf 1) m) (partIn (rowsOf (kindAt mode 1)) (parts-one mode one) tag)) ≡ fieldValue (kindAt mode 1) tag (joinedOne one)
+  one-value f Option.none s e k = unread (kindAt mode 1) tag (drop (baseOf 1) m) (tested mode step m 1)
+  one-value f (Option.some x) s e k = rw (eq-eqb _ _ (k .1 .whole), step1-read mode step f x s e) (value-kept (kindAt mode 1) tag 1 (x .joined) m (k .1))
+
+  two-value : (f : Found) (two : Option (List ℕ)) → Stage step f → f .step2 ≡ two → TwoHeld mode two m
+      → cond (tested mode step m 2) [] (bytesAt (drop (baseOf 2) m) (partIn (rowsOf (kindAt mode 2)) (parts-two mode two) tag)) ≡ fieldValue (kindAt mode 2) tag (joinedTwo two)
+  two-value f Option.none s e k = unread (kindAt mode 2) tag (drop (baseOf 2) m) (tested mode step m 2)
+  two-value f (Option.some xs) s e k = rw (eq-eqb _ _ (k .1 .whole), step2-read mode step f xs s e (k .0)) (value-kept (kindAt mode 2) tag 2 xs m (k .1))
 
 -- the step of a tag by two tests
 abbrev step : Bool → Bool → ℕ
 step x y = cond x 1 (cond y 2 0)
 
+no-tag : (b : Bool) (xs : List ℕ) → cond (b || true) [] xs ≡ []
+no-tag true xs = refl
+no-tag false xs = refl
+
 pub field-is : (r : Reading) (m : List ℕ) (tag : ℕ) → Invariant r m → fieldOf (session-of r) m tag ≡ fieldIn r tag
 unfolding fieldOf fieldIn stepOfTag
-field-is r m tag i = rw (field-number r m (length m) i) (by-step (isIn tag step1Tags) (isIn tag step2Tags))
+field-is r m tag i = rw (in-range r m i) (by-step (isIn tag step1Tags) (isIn tag step2Tags))
   where
     by-step : (x y : Bool)
-        → cond (right-size m && not (eqb (step x y) 0)) (bytesAt (drop (baseOf (step x y)) m) (partFor (session-of r) (step x y) tag)) []
+        → cond (tested (r .opening .mode) (r .progress .step) m (step x y)) [] (bytesAt (drop (baseOf (step x y)) m) (partFor (session-of r) (step x y) tag))
         ≡ cond (eqb (step x y) 0) [] (fieldValue (kindAt (r .opening .mode) (step x y)) tag (joinedAt (r .found) (step x y)))
-    by-step true y = one-value (r .opening .mode) tag (r .found .step1) m (i .one)
-    by-step false true = two-value (r .opening .mode) tag (r .found .step2) m (i .two)
-    by-step false false = none-asked (right-size m) _
+    by-step true y = one-value (r .opening .mode) (r .progress .step) tag m (r .found) (r .found .step1) (i .stage) refl (i .one)
+    by-step false true = two-value (r .opening .mode) (r .progress .step) tag m (r .found) (r .found .step2) (i .stage) refl (i .two)
+    by-step false false = no-tag (not (eqb (length m) objectSize)) _
+
+-- a part of a field that the reading has not is empty
+one-empty : (mode tag : ℕ) (one : Option StepOne) → fieldValue (kindAt mode 1) tag (joinedOne one) ≡ [] → partIn (rowsOf (kindAt mode 1)) (parts-one mode one) tag .len ≡ 0
+one-empty mode tag Option.none e = part-none (kindAt mode 1) tag
+one-empty mode tag (Option.some x) e = part-empty (kindAt mode 1) tag (x .joined) e
+
+two-empty : (mode tag : ℕ) (two : Option (List ℕ)) → fieldValue (kindAt mode 2) tag (joinedTwo two) ≡ [] → partIn (rowsOf (kindAt mode 2)) (parts-two mode two) tag .len ≡ 0
+two-empty mode tag Option.none e = part-none (kindAt mode 2) tag
+two-empty mode tag (Option.some xs) e = part-empty (kindAt mode 2) tag xs e
+
+-- such a field is the empty part of any buffer
+pub field-none : (r : Reading) (m object : List ℕ) (tag : ℕ) → Invariant r m → fieldIn r tag ≡ [] → fieldOf (session-of r) object tag ≡ []
+unfolding fieldOf fieldIn stepOfTag
+field-none r m object tag i = rw (in-range r m i) (by-step (isIn tag step1Tags) (isIn tag step2Tags))
+  where
+    by-step : (x y : Bool) → cond (eqb (step x y) 0) [] (fieldValue (kindAt (r .opening .mode) (step x y)) tag (joinedAt (r .found) (step x y))) ≡ []
+        → cond (tested (r .opening .mode) (r .progress .step) object (step x y)) [] (bytesAt (drop (baseOf (step x y)) object) (partFor (session-of r) (step x y) tag)) ≡ []
+    by-step true y e = either (tested (r .opening .mode) (r .progress .step) object 1) _ (no-bytes _ (drop (baseOf 1) object) (one-empty (r .opening .mode) tag (r .found .step1) e))
+    by-step false true e = either (tested (r .opening .mode) (r .progress .step) object 2) _ (no-bytes _ (drop (baseOf 2) object) (two-empty (r .opening .mode) tag (r .found .step2) e))
+    by-step false false e = no-tag (not (eqb (length object) objectSize)) _

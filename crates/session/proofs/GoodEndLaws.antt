@@ -13,7 +13,7 @@ use lib.Seq.{getD-set-same, getD-set-other}
 use Rattle.card.specs.Object.{objectOf, fieldValue}
 use Rattle.card.specs.Fascn.{unpackOf}
 use Rattle.card.specs.Date.{dateOf}
-use Rattle.session.specs.Tables.{checkServed, outcomeOf, expiryOutcome, listOutcome, judgedOutcomes, hasStep2, kindAt, stepAfter, baseOf, objectSize, fascnRead, keyRead, expiryRead, objectCause, joinedCause}
+use Rattle.session.specs.Tables.{checkServed, outcomeOf, expiryOutcome, listOutcome, judgedOutcomes, hasStep2, kindAt, stepAfter, baseOf, capacity, objectSize, fascnRead, keyRead, expiryRead, objectCause, joinedCause}
 use Rattle.session.specs.Reading.{Opening, StepOne, Verdict, Found, Reading, withProgress, atStep, step1End, step2End, goodEnd, ownFascn}
 use Rattle.session.specs.Finding.{verdictOn}
 use Rattle.session.specs.Ranges.{stepInRange}
@@ -29,9 +29,8 @@ use Rattle.session.proofs.Invariant.{session-of, Held, GoodOne, OneHeld
 -- a buffer that has all that a reading needs of it
 pub record Leaves (r : Reading) (m : List ℕ) : Type 0 where
   pub size : length m ≡ objectSize
-  pub held : take (length (r .progress .joined)) (drop (baseOf (r .progress .step)) m) ≡ r .progress .joined
   pub one : OneHeld (r .opening .mode) (r .found .step1) m
-  pub two : TwoHeld (r .found .step2) m
+  pub two : TwoHeld (r .opening .mode) (r .found .step2) m
 
 -- a step that begins: no data, no cause, no command outstanding
 begun-progress : (mode step : ℕ) → stepInRange mode step ≡ true → GoodProgress mode (atStep step)
@@ -114,7 +113,7 @@ one-stage : (mode : ℕ) (one : StepOne) → Stage (stepAfter mode 1) (record { 
 one-stage mode one =
     either (λ (n : ℕ). Stage n (record { step1 = Option.some one; step2 = Option.none; verdicts = [] })) (hasStep2 mode) (Stage.between refl one refl) (Stage.late refl one refl)
 
-one-end : (r : Reading) (m m′ xs cancelled : List ℕ) → Invariant r m → Leaves r m′ → r .progress .step ≡ 1 → Bytes xs → Held xs m′ 0 → joinedCause (r .opening .mode) 1 xs ≡ 0
+one-end : (r : Reading) (m m′ xs cancelled : List ℕ) → Invariant r m → Leaves r m′ → r .progress .step ≡ 1 → Bytes xs → Held (r .opening .mode) 1 xs m′ → joinedCause (r .opening .mode) 1 xs ≡ 0
     → Invariant (step1End r xs cancelled) m′
 one-end r m m′ xs cancelled i l e b k good =
     let mode = r .opening .mode in
@@ -132,11 +131,14 @@ one-end r m m′ xs cancelled i l e b k good =
 
 -- ---- step 2
 
-two-end : (r : Reading) (m m′ xs : List ℕ) → Invariant r m → Leaves r m′ → r .progress .step ≡ 2 → Held xs m′ 4096
+two-end : (r : Reading) (m m′ xs : List ℕ) → Invariant r m → Leaves r m′ → r .progress .step ≡ 2 → Held (r .opening .mode) 2 xs m′
     → Invariant (step2End r xs) m′
 two-end r m m′ xs i l e k =
-    record { opening = i .opening; progress-good = begun-progress (r .opening .mode) 3 refl; held = refl; one = l .one; two = k; stage = up (r .progress .step) (r .found) e (i .stage); judged = record { six = i .judged .six; small = i .judged .small; verdicts = i .judged .verdicts; expiry = i .judged .expiry; list = i .judged .list } }
+    record { opening = i .opening; progress-good = begun-progress (r .opening .mode) 3 refl; held = refl; one = l .one; two = (has-two (r .progress .step) e (i .progress-good .step), k); stage = up (r .progress .step) (r .found) e (i .stage); judged = record { six = i .judged .six; small = i .judged .small; verdicts = i .judged .verdicts; expiry = i .judged .expiry; list = i .judged .list } }
   where
+    has-two : (step : ℕ) → step ≡ 2 → stepInRange (r .opening .mode) step ≡ true → hasStep2 (r .opening .mode) ≡ true
+    has-two step z h = rw z at h
+
     up : (step : ℕ) (f : Found) → step ≡ 2 → Stage step f → Stage 3 (record { step1 = f .step1; step2 = Option.some xs; verdicts = f .verdicts })
     up step f z (Stage.early h n) = absurd (omega arith)
     up step f z (Stage.between h one n) = Stage.late refl one (ap (λ (y : Found). y .step1) n)
@@ -144,7 +146,7 @@ two-end r m m′ xs i l e k =
 
 -- ---- any step
 
-pub good-end : (r : Reading) (m m′ xs cancelled : List ℕ) → Invariant r m → Leaves r m′ → r .progress .step < 3 → length xs ≤ 4096 → Bytes xs
+pub good-end : (r : Reading) (m m′ xs cancelled : List ℕ) → Invariant r m → Leaves r m′ → r .progress .step < 3 → length xs ≤ capacity (r .opening .mode) (r .progress .step) → Bytes xs
     → take (length xs) (drop (baseOf (r .progress .step)) m′) ≡ xs → joinedCause (r .opening .mode) (r .progress .step) xs ≡ 0
     → StandsFor (goodEndSession (session-of r) xs cancelled) m′ (goodEnd r xs cancelled)
 unfolding goodEndSession goodEnd
@@ -153,8 +155,8 @@ good-end r m m′ xs cancelled i l lt small b held good =
     by-test (λ (s : Session) (q : Reading). StandsFor s m′ q) _ _ _ _ (eqb step 0)
     (λ e. record { object = m′; same = refl; holds = template-end r m m′ i l (eqb-true step 0 e) })
     (λ e0. by-test (λ (s : Session) (q : Reading). StandsFor s m′ q) _ _ _ _ (eqb step 1)
-    (λ e. let e1 = eqb-true step 1 e in record { object = m′; same = refl; holds = one-end r m m′ xs cancelled i l e1 b (kept step 0 (ap baseOf e1) held) (subst (λ (n : ℕ). joinedCause (r .opening .mode) n xs ≡ 0) e1 good) })
-    (λ e1. let e2 = last step lt (eqb-false step 0 e0) (eqb-false step 1 e1) in record { object = m′; same = at-step-2 step e2; holds = two-end r m m′ xs i l e2 (kept step 4096 (ap baseOf e2) held) }))
+    (λ e. let e1 = eqb-true step 1 e in record { object = m′; same = refl; holds = one-end r m m′ xs cancelled i l e1 b (held-at step 1 e1 small held) (subst (λ (n : ℕ). joinedCause (r .opening .mode) n xs ≡ 0) e1 good) })
+    (λ e1. let e2 = last step lt (eqb-false step 0 e0) (eqb-false step 1 e1) in record { object = m′; same = at-step-2 step e2; holds = two-end r m m′ xs i l e2 (held-at step 2 e2 small held) }))
   where
     last : (n : ℕ) → n < 3 → (n ≡ 0 → ⊥) → (n ≡ 1 → ⊥) → n ≡ 2
     last n a p q = omega arith
@@ -163,5 +165,5 @@ good-end r m m′ xs cancelled i l lt small b held good =
         → _≡_ {A = Host} (record { session = step2EndSession (session-of r) (objectOf (kindAt (r .opening .mode) n) xs .1); object = m′ }) (record { session = step2EndSession (session-of r) (objectOf (kindAt (r .opening .mode) 2) xs .1); object = m′ })
     at-step-2 n e = rw e
 
-    kept : (step base : ℕ) → baseOf step ≡ base → take (length xs) (drop (baseOf step) m′) ≡ xs → Held xs m′ base
-    kept step base e h = record { whole = l .size; small = small; held = rw e at h }
+    held-at : (step k : ℕ) → step ≡ k → length xs ≤ capacity (r .opening .mode) step → take (length xs) (drop (baseOf step) m′) ≡ xs → Held (r .opening .mode) k xs m′
+    held-at step k e s h = record { whole = l .size; small = rw e at s; held = rw e at h }

@@ -15,7 +15,7 @@ use Rattle.card.proofs.ListsLaws.{all-at, all-of}
 use Rattle.card.proofs.FascnLaws.{same-bytes, same-refl}
 use Rattle.session.specs.Tables.{checks, goodKind, needs, isIn, checkServed, outcomeOf, passed, unneeded, failed, otherCard, verdictOutcome, expiryOutcome, listed, listOutcome, lowestFrom, causeOf, allPassed, standingOf, fascnRead, keyRead, expiryRead}
 use Rattle.session.specs.Reading.{Opening, StepOne, Verdict, Found, Reading, ownFascn}
-use Rattle.session.specs.Finding.{finding, standing, Granted}
+use Rattle.session.specs.Finding.{verdictOn, finding, standing, Granted}
 use Rattle.session.proofs.TestLaws.{clash, and-left, and-right, either}
 use Rattle.session.proofs.OutcomeLaws.{place-of, placed}
 use Rattle.session.proofs.Invariant.{Stage, VerdictGave, ExpiryJudged, ListJudged, Judged, Invariant}
@@ -84,10 +84,10 @@ yes-by own yesNo fascn e = let q = go (eqb yesNo 0) (sameBytes fascn own) e in (
     go false false q = absurd (omega arith)
 
 -- so of a needed kind that passed such a verdict was accepted
-heard-yes : (kind : ℕ) (needed : Bool) (own : List ℕ) (v : Option Verdict) (o : ℕ) → VerdictGave kind needed own v o → needed ≡ true → o ≡ passed
+taken-yes : (kind : ℕ) (needed : Bool) (own : List ℕ) (v : Option Verdict) (o : ℕ) → VerdictGave kind needed own v o → needed ≡ true → o ≡ passed
     → v ≡ Option.some (record { kind = kind; yesNo = 1; fascn = own })
-heard-yes kind needed own v o (VerdictGave.awaiting n e) t p = let h : _≡_ {A = ℕ} 1 2 = sym (ap (λ (b : Bool). cond b 1 0) t) ∙ sym e ∙ p in absurd (omega arith)
-heard-yes kind needed own v o (VerdictGave.taken yesNo fascn n c le e) t p =
+taken-yes kind needed own v o (VerdictGave.awaiting n e) t p = let h : _≡_ {A = ℕ} 1 2 = sym (ap (λ (b : Bool). cond b 1 0) t) ∙ sym e ∙ p in absurd (omega arith)
+taken-yes kind needed own v o (VerdictGave.taken yesNo fascn n c le e) t p =
     let y = yes-by own yesNo fascn (sym e ∙ p) in
     let one : yesNo ≡ 1 = omega (arith, le, y .0) in
     n ∙ rw (one, y .1) refl
@@ -111,12 +111,12 @@ grants r m i e =
     let one = x .0 in
     let own : ownFascn mode (r .found .step1) ≡ fascnRead mode (one .joined) = ap (ownFascn mode) (x .1) in
     record {
-      all-read = last;
+      passed = and-right (eqb (r .progress .step) 3) (allPassed mode o) k;
       one = one;
       read = x .1;
       in-time = in-time-by _ _ (sym (expiry-judged j (x .1)) ∙ p 2 (omega arith) (needs-both mode .0));
       not-listed = not-listed-by _ _ (sym (list-judged j (x .1)) ∙ p 3 (omega arith) (needs-both mode .1));
-      verdicts = λ kind good n. rw (← own) (heard-yes kind _ _ _ _ (j .verdicts kind good) n (p (place-of kind) (placed kind good .low) (rw (placed kind good .next) n)));
+      verdicts = λ kind good n. rw (← own) (taken-yes kind _ _ _ _ (j .verdicts kind good) n (p (place-of kind) (placed kind good .low) (rw (placed kind good .next) n)));
     }
 
 -- ---- the standing, from granted
@@ -127,10 +127,10 @@ unfolding lowestFrom
 none-failed c [] h = refl
 none-failed c (v ∷ o) h = rw (h 0 (omega arith)) (none-failed (suc c) o (λ i l. h (suc i) (omega arith)))
 
--- what a verdict yesNo, and of which bytes
-abbrev said : Option Verdict → ℕ × List ℕ
-said Option.none = (0, [])
-said (Option.some v) = (v .yesNo, v .fascn)
+-- yes or no, and on which bytes
+abbrev content : Option Verdict → ℕ × List ℕ
+content Option.none = (0, [])
+content (Option.some v) = (v .yesNo, v .fascn)
 
 -- the outcome of a kind whose verdict, where it is needed, was a yes on the card's own bytes
 yes-taken : (kind : ℕ) (needed : Bool) (own : List ℕ) (v : Option Verdict) (o : ℕ) → VerdictGave kind needed own v o
@@ -138,9 +138,9 @@ yes-taken : (kind : ℕ) (needed : Bool) (own : List ℕ) (v : Option Verdict) (
 unfolding verdictOutcome
 yes-taken kind false own v o (VerdictGave.awaiting n e) h = e
 yes-taken kind false own v o (VerdictGave.taken yesNo fascn n c le e) h = clash c
-yes-taken kind true own v o (VerdictGave.awaiting n e) h = let q : _≡_ {A = ℕ} 0 1 = ap (λ (w : Option Verdict). said w .0) (sym n ∙ h refl) in absurd (omega arith)
+yes-taken kind true own v o (VerdictGave.awaiting n e) h = let q : _≡_ {A = ℕ} 0 1 = ap (λ (w : Option Verdict). content w .0) (sym n ∙ h refl) in absurd (omega arith)
 yes-taken kind true own v o (VerdictGave.taken yesNo fascn n c le e) h =
-    let z = sym (ap said n) ∙ ap said (h refl) in
+    let z = sym (ap content n) ∙ ap content (h refl) in
     let one : yesNo ≡ 1 = ap (λ (p : ℕ × List ℕ). p .0) z in
     let same : fascn ≡ own = ap (λ (p : ℕ × List ℕ). p .1) z in
     e ∙ rw (one, same, same-refl own) refl
@@ -154,6 +154,36 @@ six P a b c d e f (suc (suc (suc zero))) h = d
 six P a b c d e f (suc (suc (suc (suc zero)))) h = e
 six P a b c d e f (suc (suc (suc (suc (suc zero))))) h = f
 six P a b c d e f (suc (suc (suc (suc (suc (suc i)))))) h = absurd (omega arith)
+
+-- ---- the step, from granted
+
+-- every mode needs a verdict
+a-kind : (mode : ℕ) → (kind : ℕ) × ((goodKind kind ≡ true) × (needs mode (checkServed kind) ≡ true))
+unfolding needs checkServed
+a-kind mode = go (eqb mode 1) (eqb mode 2) (eqb mode 3)
+  where
+    go : (a b c : Bool)
+        → (kind : ℕ) × ((goodKind kind ≡ true) × (isIn (checkServed kind) (cond a (1 ∷ 2 ∷ 3 ∷ 4 ∷ []) (cond b (3 ∷ 4 ∷ 5 ∷ []) (cond c (1 ∷ 2 ∷ 3 ∷ 4 ∷ 6 ∷ []) (1 ∷ 2 ∷ 3 ∷ 4 ∷ 5 ∷ 6 ∷ [])))) ≡ true))
+    go true b c = (1, (refl, refl))
+    go false true c = (3, (refl, refl))
+    go false false true = (1, (refl, refl))
+    go false false false = (1, (refl, refl))
+
+abbrev is-given : Option Verdict → Bool
+is-given Option.none = false
+is-given (Option.some v) = true
+
+-- a verdict was accepted at step 3 only
+given-late : (step kind : ℕ) (f : Found) → Stage step f → is-given (verdictOn kind (f .verdicts)) ≡ true → step ≡ 3
+unfolding verdictOn
+given-late step kind f (Stage.early l e) g = clash (sym (ap (λ (x : Found). is-given (verdictOn kind (x .verdicts))) e) ∙ g)
+given-late step kind f (Stage.between l x e) g = clash (sym (ap (λ (x : Found). is-given (verdictOn kind (x .verdicts))) e) ∙ g)
+given-late step kind f (Stage.late l x e) g = l
+
+pub at-step-3 : (r : Reading) (m : List ℕ) → Invariant r m → Granted r → r .progress .step ≡ 3
+at-step-3 r m i g =
+    let k = a-kind (r .opening .mode) in
+    given-late (r .progress .step) (k .0) (r .found) (i .stage) (ap is-given (g .verdicts (k .0) (k .1 .0) (k .1 .1)))
 
 -- every outcome is then 2 where the check is needed, and 0 elsewhere
 settled : (r : Reading) (m : List ℕ) → Invariant r m → Granted r → (i : ℕ) → i < checks → getD (r .outcomes) i 0 ≡ cond (needs (r .opening .mode) (i + 1)) passed unneeded
@@ -169,10 +199,6 @@ settled r m i g =
     six (λ (k : ℕ). getD o k 0 ≡ cond (needs mode (k + 1)) passed unneeded) (by-kind 1 refl) (by-kind 2 refl)
     (rw (needs-both mode .0) (expiry-judged j (g .read) ∙ rw (le-leb _ _ (g .in-time)) refl)) (rw (needs-both mode .1) (list-judged j (g .read) ∙ rw (g .not-listed) refl)) (by-kind 3 refl) (by-kind 4 refl)
 
-passes : (b : Bool) → (not b || eqb (cond b passed unneeded) passed) ≡ true
-passes true = refl
-passes false = refl
-
 sound : (b : Bool) → (eqb (cond b passed unneeded) failed || eqb (cond b passed unneeded) otherCard) ≡ false
 sound true = refl
 sound false = refl
@@ -184,8 +210,8 @@ granted r m i g =
     let o = r .outcomes in
     let s = settled r m i g in
     let low : lowestFrom 1 o ≡ 0 = none-failed 1 o (λ k h. rw (s k (rw (i .judged .six) at h)) (sound (needs mode (k + 1)))) in
-    let all-passed : allPassed mode o ≡ true = all-of _ checks (λ k h. rw (s k h) (passes (needs mode (k + 1)))) in
-    rw (g .all-read, i .progress-good .no-cause (g .all-read), low, all-passed) refl
+    let last = at-step-3 r m i g in
+    rw (last, i .progress-good .no-cause last, low, g .passed) refl
 
 -- the standing is 1 exactly where the calls say granted
 pub granted-iff : (r : Reading) (m : List ℕ) → Invariant r m → (standing (finding r) ≡ 1) ↔ Granted r

@@ -11,26 +11,36 @@ use Rattle.card.specs.Fascn.{unpackOf}
 use Rattle.card.specs.Object.{objectOf, fieldValue}
 use Rattle.card.specs.Date.{dateOf}
 use Rattle.card.specs.declared.object.Part.{Part}
-use Rattle.session.specs.Tables.{checks, goodKind, needs, checkServed, outcomeOf, verdictOutcome, expiryOutcome, listOutcome, kindAt, baseOf, objectSize, fascnRead, keyRead, expiryRead}
+use Rattle.session.specs.Tables.{checks, goodKind, needs, checkServed, outcomeOf, verdictOutcome, expiryOutcome, listOutcome, hasStep2, kindAt, baseOf, capacity, objectSize, NextCommand, fascnRead, keyRead, expiryRead}
 use Rattle.session.specs.Reading.{Opening, Progress, StepOne, Verdict, Found, Reading, ownFascn}
 use Rattle.session.specs.Finding.{verdictOn}
 use Rattle.session.specs.Ranges.{stepInRange, causeInRange, outstandingInRange, outcomesInRange}
-use Rattle.session.specs.Operation.{noParts}
+use Rattle.session.specs.Operation.{nextOf, noParts}
 use Rattle.session.specs.Tables.{statusShown}
 use Rattle.session.specs.Promise.{Bytes, Host, goodOpening}
 use Rattle.session.specs.declared.state.SessionOpening.{SessionOpening}
 use Rattle.session.specs.declared.state.SessionProgress.{SessionProgress}
 use Rattle.session.specs.declared.state.Card.{Card}
 use Rattle.session.specs.declared.state.Session.{Session}
+use Rattle.session.specs.declared.state.Next.{Next}
+use Rattle.session.specs.declared.state.Next.the-variants.{Initial, GetResponse}
 
 -- ---- the session that stands for a reading
 
 abbrev pub opening-of : Opening → SessionOpening
 opening-of o = record { mode = o .mode; date = o .date; aid = overFront (o .aid) (replicate 16 0); «aid_len» = length (o .aid) }
 
+abbrev pub next-of : NextCommand → Next
+next-of NextCommand.ofStep = Initial
+next-of (NextCommand.getResponse second) = GetResponse second
+
+pub next-same : (n : NextCommand) → nextOf (next-of n) ≡ n
+next-same NextCommand.ofStep = refl
+next-same (NextCommand.getResponse second) = refl
+
 abbrev pub progress-of : Progress → SessionProgress
 progress-of c =
-    record { step = c .step; filled = length (c .joined); outstanding = c .outstanding; next = c .next; cause = c .cause; sw1 = c .sw1; sw2 = c .sw2 }
+    record { step = c .step; filled = length (c .joined); outstanding = c .outstanding; next = next-of (c .next); cause = c .cause; sw1 = c .sw1; sw2 = c .sw2 }
 
 abbrev pub expiry-of : ℕ → Option StepOne → ℕ
 expiry-of mode Option.none = 0
@@ -57,10 +67,10 @@ host-of r m = record { session = session-of r; object = m }
 -- ---- what is known of the good ends of steps 1 and 2
 
 -- the object buffer has a step's joined data from the step's base on
-pub record Held (xs m : List ℕ) (base : ℕ) : Type 0 where
+pub record Held (mode step : ℕ) (xs m : List ℕ) : Type 0 where
   pub whole : length m ≡ objectSize
-  pub small : length xs ≤ 4096
-  pub held : take (length xs) (drop base m) ≡ xs
+  pub small : length xs ≤ capacity mode step
+  pub held : take (length xs) (drop (baseOf step) m) ≡ xs
 
 -- step 1's joined data is an object with a well-formed FASC-N and a date
 pub record GoodOne (mode : ℕ) (f : StepOne) : Type 0 where
@@ -71,11 +81,11 @@ pub record GoodOne (mode : ℕ) (f : StepOne) : Type 0 where
 
 abbrev pub OneHeld : ℕ → Option StepOne → List ℕ → Type 0
 OneHeld mode Option.none m = Unit
-OneHeld mode (Option.some f) m = GoodOne mode f × Held (f .joined) m 0
+OneHeld mode (Option.some f) m = GoodOne mode f × Held mode 1 (f .joined) m
 
-abbrev pub TwoHeld : Option (List ℕ) → List ℕ → Type 0
-TwoHeld Option.none m = Unit
-TwoHeld (Option.some joined) m = Held joined m 4096
+abbrev pub TwoHeld : ℕ → Option (List ℕ) → List ℕ → Type 0
+TwoHeld mode Option.none m = Unit
+TwoHeld mode (Option.some joined) m = (hasStep2 mode ≡ true) × Held mode 2 joined m
 
 -- what is found by a step
 pub data Stage (step : ℕ) (f : Found) : Type 0 where
@@ -113,7 +123,7 @@ pub record Judged (opening : Opening) (o : List ℕ) (f : Found) : Type 0 where
 -- of the course of the reading, in a mode
 pub record GoodProgress (mode : ℕ) (c : Progress) : Type 0 where
   pub step : stepInRange mode (c .step) ≡ true
-  pub filled : length (c .joined) ≤ 4096
+  pub filled : length (c .joined) ≤ capacity mode (c .step)
   pub cause : causeInRange (c .cause) ≡ true
   pub outstanding : outstandingInRange (c .outstanding) (c .step) (c .cause) ≡ true
   -- at step 3 no cause arose
@@ -128,7 +138,7 @@ pub record Invariant (r : Reading) (m : List ℕ) : Type 0 where
   pub progress-good : GoodProgress (r .opening .mode) (r .progress)
   pub held : take (length (r .progress .joined)) (drop (baseOf (r .progress .step)) m) ≡ r .progress .joined
   pub one : OneHeld (r .opening .mode) (r .found .step1) m
-  pub two : TwoHeld (r .found .step2) m
+  pub two : TwoHeld (r .opening .mode) (r .found .step2) m
   pub stage : Stage (r .progress .step) (r .found)
   pub judged : Judged (r .opening) (r .outcomes) (r .found)
 

@@ -1,6 +1,8 @@
 -- The laws of this crate's definitions, from the general to the particular. A crate above cites PromiseLaws, and the clauses of the contracts.
 -- TestLaws: tests
 pub mod TestLaws
+-- FigureLaws: document 01's figures
+pub mod FigureLaws
 -- ConditionLaws: lists of conditions with their numbers
 pub mod ConditionLaws
 -- BytesLaws: lists of bytes
@@ -25,7 +27,7 @@ pub mod CallLaws
 pub mod SendLaws
 -- JudgeLaws: step 1's joined data, judged
 pub mod JudgeLaws
--- ReplyLaws: the number of a reply yesNo its case
+-- ReplyLaws: the number of a reply says its case
 pub mod ReplyLaws
 -- RefusedLaws: a refused call changes nothing
 pub mod RefusedLaws

@@ -1,4 +1,4 @@
--- Demand 3, proved: the promise of every history, and of every two.
+-- Demand 3, proved: the promise of every history.
 -- Assumes nothing.
 use mathlib.Core.Path.{_≡_, refl, sym, ap, _∙_}
 use mathlib.Core.Bool.{Bool, true, false, cond}
@@ -7,17 +7,17 @@ use Prim.Native.Nat.{ℕ, zero, suc}
 use native.Mathlib.Omega.{arith}
 use lib.Dec.{eqb}
 use lib.ListN.{length, getD}
-use Rattle.session.specs.Condition.{commandConditions, answerConditions, verdictConditions, fieldConditions, stampConditions}
+use Rattle.session.specs.Condition.{commandConditions, answerConditions, verdictConditions, stampConditions}
 use Rattle.session.specs.Reading.{Arguments, Reading, begins, nextCommand, commandRefused, answerRefused, verdictRefused, refusedBy, read, refusals}
 use Rattle.session.specs.Ranges.{inRange}
 use Rattle.session.specs.Operation.{opened, commandOf, commandBuffer, fieldOf, stampBuffer}
-use Rattle.session.specs.Promise.{Call, Host, callNumber, numbers, History, start, finish, argumentsIn, readingOf, stampFor, countFor, Promise, Apart}
+use Rattle.session.specs.Promise.{Call, Host, callNumber, numbers, History, start, finish, argumentsIn, readingOf, stampFor, countFor, Promise}
 use Rattle.session.specs.declared.state.Session.{Session}
 use Rattle.session.proofs.ConditionLaws.{not-named}
 use Rattle.session.proofs.Invariant.{session-of, Invariant, HostStandsFor}
 use Rattle.session.proofs.InRangeLaws.{in-range}
 use Rattle.session.proofs.CommandLaws.{command-gives, command-leaves}
-use Rattle.session.proofs.FieldLaws.{field-is}
+use Rattle.session.proofs.FieldLaws.{field-is, field-none}
 use Rattle.session.proofs.GrantLaws.{granted-iff}
 use Rattle.session.proofs.StampLaws.{stamp-is, stamps-iff}
 use Rattle.session.proofs.CountLaws.{answers-step, answers-all}
@@ -37,11 +37,11 @@ all-numbers h = numbers-are (h .calls) (begins (h .opening)) (h .object) (begins
 
 not-four : (r : Reading) (t : Arguments) → refusedBy r t ≡ 4 → ⊥
 unfolding commandRefused answerRefused verdictRefused
-not-four r (Arguments.command room) = not-named 4 (commandConditions (r .progress .step) (r .progress .cause) (r .progress .outstanding) room (length (nextCommand r))) refl
-not-four r (Arguments.answer size bytes cancelled) = not-named 4 (answerConditions (r .progress .outstanding) size (length bytes)) refl
-not-four r (Arguments.verdict kind yesNo fascn) = not-named 4 (verdictConditions (r .opening .mode) (r .progress .step) (r .outcomes) kind yesNo fascn) refl
-not-four r (Arguments.field size tag) = not-named 4 (fieldConditions size) refl
-not-four r (Arguments.stamp room) = not-named 4 (stampConditions room) refl
+not-four r (Arguments.command room) e = not-named 4 (commandConditions (r .progress .step) (r .progress .cause) (r .progress .outstanding) room (length (nextCommand r))) refl e
+not-four r (Arguments.answer size bytes cancelled) e = not-named 4 (answerConditions (r .progress .outstanding) size (length bytes)) refl e
+not-four r (Arguments.verdict kind yesNo fascn) e = not-named 4 (verdictConditions (r .opening .mode) (r .progress .step) (r .outcomes) kind yesNo fascn) refl e
+not-four r (Arguments.field size tag) e = let z : _≡_ {A = ℕ} 0 4 = e in omega arith
+not-four r (Arguments.stamp room) e = not-named 4 (stampConditions room) refl e
 
 never-four : (ts : List Arguments) (r : Reading) (i : ℕ) → getD (refusals r ts) i 0 ≡ 4 → ⊥
 never-four [] r i e = let z : _≡_ {A = ℕ} 0 4 = e in omega arith
@@ -77,13 +77,12 @@ promise h =
       command-count = λ out. ap (λ (x : Session). commandOf x (length out) .1) s ∙ command-count r m (length out) i;
       command-bytes = λ out. ap (λ (x : Session). commandBuffer x out) s ∙ command-leaves r m out i;
       field-value = λ tag. ap (λ (x : Host). fieldOf (x .session) (x .object) tag) (a .same) ∙ field-is r m tag i;
+      field-empty = λ object tag e. ap (λ (x : Session). fieldOf x object tag) s ∙ field-none r m object tag i e;
       refused = all-numbers h;
       never-four = λ n e. never-four (argumentsIn h) (begins (h .opening)) n (ap (λ (l : List ℕ). getD l n 0) (sym (all-numbers h)) ∙ e);
       in-range = ap inRange s ∙ in-range r m i;
+      apart = λ u. stamps-iff r (readingOf u) m (reached u .object) i (reached u .holds);
       granted = granted-iff r m i;
       answers-step = λ step. answers-step step (h .opening) (argumentsIn h);
       answers-all = answers-all (h .opening) (argumentsIn h);
     }
-
-pub apart : (h u : History) → Apart h u
-apart h u = record { stamps = stamps-iff (readingOf h) (readingOf u) (reached h .object) (reached u .object) (reached h .holds) (reached u .holds) }

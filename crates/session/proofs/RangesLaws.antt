@@ -14,39 +14,46 @@ use Rattle.card.specs.declared.object.Kind.{Kind}
 use Rattle.card.specs.declared.object.Kind.the-variants.{Signed, Unsigned, Fingers}
 use Rattle.card.specs.declared.object.Part.{Part}
 use Rattle.card.proofs.ListsLaws.{all-at}
-use Rattle.session.specs.Tables.{goodMode, baseOf, kindAt, objectSize}
-use Rattle.session.specs.Ranges.{openingInRange, stepInRange, causeInRange, outstandingInRange, progressInRange, outcomesInRange, partInside, partsInside, cardInRange, inRange, outOfRange, valuesOf, valuesInRange}
+use Rattle.session.specs.Tables.{modeInRange, baseOf, capacity, kindAt, objectSize}
+use Rattle.session.specs.Ranges.{openingInRange, stepInRange, causeInRange, outstandingInRange, progressInRange, outcomesInRange, partInside, partsInside, cardInRange, inRange, outOfRange, rangedValues, valuesInRange}
 use Rattle.session.specs.Operation.{partFor}
 use Rattle.session.specs.declared.state.Session.{Session}
 use Rattle.session.specs.declared.range.Values.{Values}
 use Rattle.session.proofs.TestLaws.{and-parts}
+use Rattle.session.proofs.FigureLaws.{base-inside, base-by}
 
 -- ---- the groups
 
 -- setting, progress, outcomes and card
 pub groups-in-range : (s : Session) → inRange s ≡ true
-    → ((openingInRange (s .opening) ≡ true) × (progressInRange (s .opening .mode) (s .progress) ≡ true)) × ((outcomesInRange (s .outcomes) ≡ true) × (cardInRange (s .card) ≡ true))
-unfolding inRange
+    → let v = rangedValues s in
+    ((openingInRange (v .mode) (v .date) (v .«aid_len») ≡ true) × (progressInRange (v .mode) (v .step) (v .filled) (v .cause) (v .outstanding) ≡ true))
+    × ((outcomesInRange (v .outcomes) ≡ true) × (cardInRange (v .expiry) (v .inside) ≡ true))
+unfolding inRange valuesInRange
 groups-in-range s e = let h = and-parts _ _ e in (and-parts _ _ (h .0), and-parts _ _ (h .1))
 
 -- ---- single values
 
 pub aid-in-range : (s : Session) → inRange s ≡ true → (5 ≤ s .opening .«aid_len») × (s .opening .«aid_len» ≤ 16)
+unfolding rangedValues
 aid-in-range s e =
     let n = s .opening .«aid_len» in
-    let fits : leb 5 n && leb n 16 ≡ true = and-parts (goodMode (s .opening .mode) && realDate (s .opening .date)) _ (groups-in-range s e .0 .0) .1 in
+    let fits : leb 5 n && leb n 16 ≡ true = and-parts (modeInRange (s .opening .mode) && realDate (s .opening .date)) _ (groups-in-range s e .0 .0) .1 in
     let h = and-parts (leb 5 n) (leb n 16) fits in
     (leb-true 5 n (h .0), leb-true n 16 (h .1))
 
-pub filled-in-range : (s : Session) → inRange s ≡ true → s .progress .filled ≤ 4096
+pub filled-in-range : (s : Session) → inRange s ≡ true → s .progress .filled ≤ capacity (s .opening .mode) (s .progress .step)
+unfolding rangedValues
 filled-in-range s e =
     let p = s .progress in
+    let most = capacity (s .opening .mode) (p .step) in
     let step = stepInRange (s .opening .mode) (p .step) in
-    let full : step && leb (p .filled) 4096 ≡ true = and-parts (step && leb (p .filled) 4096) (causeInRange (p .cause) && outstandingInRange (p .outstanding) (p .step) (p .cause)) (groups-in-range s e .0 .1) .0 in
-    leb-true (p .filled) 4096 (and-parts step (leb (p .filled) 4096) full .1)
+    let full : step && leb (p .filled) most ≡ true = and-parts (step && leb (p .filled) most) (causeInRange (p .cause) && outstandingInRange (p .outstanding) (p .step) (p .cause)) (groups-in-range s e .0 .1) .0 in
+    leb-true (p .filled) most (and-parts step (leb (p .filled) most) full .1)
 
 -- the parts of step 1 and those of step 2
 pub parts-in-range : (s : Session) → inRange s ≡ true → (partsInside (baseOf 1) (s .card .step1) ≡ true) × (partsInside (baseOf 2) (s .card .step2) ≡ true)
+unfolding rangedValues
 parts-in-range s e =
     let c = s .card in
     and-parts (partsInside (baseOf 1) (c .step1)) (partsInside (baseOf 2) (c .step2)) (and-parts (eqb (c .expiry) 0 || realDate (c .expiry)) _ (groups-in-range s e .1 .1) .1)
@@ -54,10 +61,8 @@ parts-in-range s e =
 -- ---- parts
 
 -- a part that passes its test ends inside the object buffer
-pub part-ends : (base : ℕ) (p : Part) → base ≤ objectSize → partInside base p ≡ true → base + (p .start + p .len) ≤ objectSize
-part-ends base p h e =
-    let t = and-parts (leb (p .start) (objectSize - base)) (leb (p .len) (objectSize - base - p .start)) e in
-    omega (arith, h, leb-true (p .start) (objectSize - base) (t .0), leb-true (p .len) (objectSize - base - p .start) (t .1))
+part-ends : (base : ℕ) (p : Part) → partInside base p ≡ true → base + (p .start + p .len) ≤ objectSize
+part-ends base p e = omega (arith, leb-true (base + p .start + p .len) objectSize e)
 
 -- and so does the part of the field with a tag, where as many parts pass as there are rows
 picked-ends : (base : ℕ) (rs : List _) (ps : List Part) (tag : ℕ) → base ≤ objectSize → ((i : ℕ) → i < length rs → partInside base (getD ps i empty) ≡ true)
@@ -68,7 +73,7 @@ picked-ends base (r ∷ rs) [] tag h t = omega arith
 picked-ends base (r ∷ rs) (p ∷ ps) tag h t = by-tag (eqb (r .0) tag) (picked-ends base rs ps tag h (λ i l. t (suc i) (omega (arith, l))))
   where
     by-tag : (k : Bool) → let q = partIn rs ps tag in base + (q .start + q .len) ≤ objectSize → let w = cond k p (partIn rs ps tag) in base + (w .start + w .len) ≤ objectSize
-    by-tag true later = part-ends base p h (t 0 (omega arith))
+    by-tag true later = part-ends base p (t 0 (omega arith))
     by-tag false later = later
 
 -- an object has five rows at most
@@ -87,15 +92,15 @@ parts-end base k ps tag h e =
 -- the field with a tag of a step's object lies inside the object buffer
 pub part-in-range : (s : Session) (step tag : ℕ) → inRange s ≡ true
     → baseOf step + (partFor s step tag .start + partFor s step tag .len) ≤ objectSize
-part-in-range s step tag e = by-step (eqb step 2) (kindAt (s .opening .mode) step)
+part-in-range s step tag e = rw (base-by step) (by-step (eqb step 2) (kindAt (s .opening .mode) step))
   where
-    by-step : (b : Bool) (k : Kind) → let p = partIn (rowsOf k) (cond b (s .card .step2) (s .card .step1)) tag in cond b 4096 0 + (p .start + p .len) ≤ objectSize
-    by-step true k = parts-end 4096 k (s .card .step2) tag (omega arith) (parts-in-range s e .1)
-    by-step false k = parts-end 0 k (s .card .step1) tag (omega arith) (parts-in-range s e .0)
+    by-step : (b : Bool) (k : Kind) → let p = partIn (rowsOf k) (cond b (s .card .step2) (s .card .step1)) tag in cond b (baseOf 2) (baseOf 1) + (p .start + p .len) ≤ objectSize
+    by-step true k = parts-end (baseOf 2) k (s .card .step2) tag (base-inside 2) (parts-in-range s e .1)
+    by-step false k = parts-end (baseOf 1) k (s .card .step1) tag (base-inside 1) (parts-in-range s e .0)
 
 -- ---- the values by themselves
 
 -- what their test says is said of the session that they are of
-pub values-say : (s : Session) {v : Values} {r : Bool} → v ≡ valuesOf s → r ≡ not (valuesInRange v) → r ≡ outOfRange s
-unfolding inRange valuesOf valuesInRange
+pub values-say : (s : Session) {v : Values} {r : Bool} → v ≡ rangedValues s → r ≡ not (valuesInRange v) → r ≡ outOfRange s
+unfolding inRange
 values-say s e f = f ∙ ap (λ (x : Values). not (valuesInRange x)) e

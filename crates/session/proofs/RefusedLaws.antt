@@ -6,7 +6,7 @@ use mathlib.Core.List.{List}
 use Prim.Native.Nat.{ℕ}
 use borrow.Author.Tests.{ne-eqb}
 use lib.ListN.{length}
-use Rattle.session.specs.Ranges.{inRange}
+use Rattle.session.specs.Ranges.{rangedValues, valuesInRange, inRange}
 use Rattle.session.specs.Operation.{dead, openRefusal, openOf, commandRefusal, commandOf, commandBuffer, answerRefusal, answerOf, answerBuffer, verdictRefusal, verdictOf, stampRefusal, stampAnswer, stampBuffer}
 use Rattle.session.specs.declared.state.Session.{Session}
 
@@ -38,17 +38,17 @@ stamp-unchanged s out h = (refl, rw (ne-eqb (stampRefusal s (length out)) 0 h))
 
 -- every call on it is refused by 4
 pub command-dead : (room : ℕ) → commandRefusal dead room ≡ 4
-unfolding commandRefusal inRange
+unfolding commandRefusal inRange valuesInRange rangedValues
 command-dead room = refl
 
 pub answer-dead : (size n : ℕ) → answerRefusal dead size n ≡ 4
-unfolding answerRefusal inRange
+unfolding answerRefusal inRange valuesInRange rangedValues
 answer-dead size n = refl
 
 pub verdict-dead : (kind yesNo : ℕ) (fascn : List ℕ) → verdictRefusal dead kind yesNo fascn ≡ 4
-unfolding verdictRefusal inRange
+unfolding verdictRefusal inRange valuesInRange rangedValues
 verdict-dead kind yesNo fascn = refl
 
 pub stamp-dead : (room : ℕ) → stampRefusal dead room ≡ 4
-unfolding stampRefusal inRange
+unfolding stampRefusal inRange valuesInRange rangedValues
 stamp-dead room = refl

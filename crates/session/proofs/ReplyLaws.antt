@@ -1,4 +1,4 @@
--- The replies of the calls: no two have one number, so that the number, which the contracts give, yesNo the case.
+-- The replies of the calls: no two have one number, so that the number, which the contracts give, says the case.
 -- Assumes nothing.
 use mathlib.Core.Path.{_≡_, refl, sym, ap, _∙_}
 use mathlib.Core.List.{List, [], _∷_}

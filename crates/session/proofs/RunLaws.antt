@@ -20,7 +20,6 @@ use Rattle.session.proofs.InRangeLaws.{in-range}
 use Rattle.session.proofs.CommandLaws.{command-gives, on-command}
 use Rattle.session.proofs.AnswerLaws.{takes-answer, answer-number, answer-accepts}
 use Rattle.session.proofs.VerdictLaws.{on-verdict, verdict-taken-session}
-use Rattle.session.proofs.FieldLaws.{field-number}
 use Rattle.session.proofs.BytesLaws.{part-bytes}
 
 -- ---- the number of a call
@@ -61,7 +60,7 @@ unfolding stampAnswer
 number-is r m (Call.command out) i = command-refused r m (length out) i
 number-is r m (Call.answer object bytes cancelled) i = answer-refused r m object bytes cancelled i
 number-is r m (Call.verdict kind yesNo fascn) i = verdict-refused r m kind yesNo fascn i
-number-is r m (Call.field object tag) i = field-number r m (length object) i
+number-is r m (Call.field object tag) i = refl
 number-is r m (Call.stamp out) i = stamp-number r m (length out) i
 
 -- ---- where a call leads
@@ -90,7 +89,7 @@ on-call r m (Call.answer object bytes cancelled) i l =
 on-call r m (Call.verdict kind yesNo fascn) i l =
     rw (verdict-gives r m kind yesNo fascn i)
     (by-test (λ (x : ℕ × Session) (q : Reading). StandsFor (x .1) m q) _ _ _ _ (eqb (verdictRefused r kind yesNo fascn) 0) (λ e. stays _ m (on-verdict r m kind yesNo fascn i (eqb-true _ 0 e))) (λ _. stays r m i))
-on-call r m (Call.field object tag) i l = either (HostStandsFor (host-of r m)) (eqb (refusedBy r (Arguments.field (length object) tag)) 0) (stays r m i) (stays r m i)
+on-call r m (Call.field object tag) i l = stays r m i
 on-call r m (Call.stamp out) i l = either (HostStandsFor (host-of r m)) (eqb (refusedBy r (Arguments.stamp (length out))) 0) (stays r m i) (stays r m i)
 
 -- ---- every list

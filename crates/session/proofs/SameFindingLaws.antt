@@ -11,7 +11,7 @@ use lib.ListN.{length, length-append}
 use lib.Seq.{set-comm}
 use Rattle.card.specs.Lists.{all, sameBytes}
 use Rattle.card.specs.Command.{statusOf}
-use Rattle.session.specs.Tables.{goodKind, isResponse, ruleCause, joinedCause}
+use Rattle.session.specs.Tables.{goodKind, capacity, isResponse, ruleCause, joinedCause}
 use Rattle.session.specs.Reading.{Reading, withProgress, sending, continued, goodEnd, judged, answerTaken, verdictTaken}
 use Rattle.session.specs.Finding.{finding}
 use Rattle.session.proofs.TestLaws.{by-test}
@@ -36,20 +36,20 @@ judged-alike r old joined cancelled second =
     (λ _. refl)
 
 -- an answer of 90 00 that has room is judged with what the step had
-done-judged : (r : Reading) (bytes cancelled : List ℕ) → length (r .progress .joined) + length bytes ≤ 4096
+done-judged : (r : Reading) (bytes cancelled : List ℕ) → length (r .progress .joined) + length bytes ≤ capacity (r .opening .mode) (r .progress .step)
     → answerTaken r bytes (0x90 ∷ 0x00 ∷ []) cancelled ≡ judged r (r .progress .joined ++ bytes) cancelled
 unfolding answerTaken ruleCause statusOf sameBytes all
-done-judged r bytes cancelled h = rw (le-ltb 4096 (length (r .progress .joined) + length bytes) h)
+done-judged r bytes cancelled h = rw (le-ltb (capacity (r .opening .mode) (r .progress .step)) (length (r .progress .joined) + length bytes) h)
 
 -- one of 61 that has room, and is not an empty one to GET RESPONSE, is appended
-more-continued : (r : Reading) (bytes cancelled : List ℕ) (second : ℕ) → length (r .progress .joined) + length bytes ≤ 4096 → eqb (length bytes) 0 && isResponse (r .progress .next) ≡ false
+more-continued : (r : Reading) (bytes cancelled : List ℕ) (second : ℕ) → length (r .progress .joined) + length bytes ≤ capacity (r .opening .mode) (r .progress .step) → eqb (length bytes) 0 && isResponse (r .progress .next) ≡ false
     → answerTaken r bytes (0x61 ∷ second ∷ []) cancelled ≡ withProgress r (continued (r .progress) (r .progress .joined ++ bytes) second)
 unfolding answerTaken ruleCause statusOf sameBytes all
-more-continued r bytes cancelled second h e = rw (e, le-ltb 4096 (length (r .progress .joined) + length bytes) h)
+more-continued r bytes cancelled second h e = rw (e, le-ltb (capacity (r .opening .mode) (r .progress .step)) (length (r .progress .joined) + length bytes) h)
 
 -- Data that comes in one answer, or cut in two at any place with GET RESPONSE between, whatever the second byte of the 61 is and whichever list was lent with it, gives one finding.
 -- By this every cutting of a step's data comes to the answer that has it whole.
-pub cut-anywhere : (r : Reading) (xs ys cancelled other : List ℕ) (second : ℕ) → length (r .progress .joined) + length xs + length ys ≤ 4096
+pub cut-anywhere : (r : Reading) (xs ys cancelled other : List ℕ) (second : ℕ) → length (r .progress .joined) + length xs + length ys ≤ capacity (r .opening .mode) (r .progress .step)
     → eqb (length xs) 0 && isResponse (r .progress .next) ≡ false
     → let cut = answerTaken r xs (0x61 ∷ second ∷ []) other in
     Alike (answerTaken (withProgress cut (sending (cut .progress))) ys (0x90 ∷ 0x00 ∷ []) cancelled) (answerTaken r (xs ++ ys) (0x90 ∷ 0x00 ∷ []) cancelled)

@@ -16,7 +16,7 @@ use Rattle.card.specs.Date.{daysIn, realDate}
 use Rattle.card.specs.Command.{aidRefused}
 use Rattle.card.proofs.FascnLaws.{well-formed, unpack-pack}
 use Rattle.card.proofs.DateLaws.{date-real}
-use Rattle.session.specs.Tables.{goodMode, fascnRead, stampSize, fourBytes, layout}
+use Rattle.session.specs.Tables.{modeInRange, fascnRead, stampSize, fourBytes, layout}
 use Rattle.session.specs.Reading.{StepOne, Found, Reading, ownFascn}
 use Rattle.session.specs.Finding.{Finding, digitsFound, expiryFound, finding, standing, fascnStamped, expiryStamped, stampOf}
 use Rattle.session.specs.Operation.{stampHead, stampIn}
@@ -83,7 +83,7 @@ read-by step f (Stage.between l x e) = ap (λ (y : Found). has (y .step1)) e ∙
 read-by step f (Stage.late l x e) = ap has e ∙ sym (le-leb 2 step (omega arith))
 
 date-small : (r : Reading) (m : List ℕ) → Invariant r m → r .opening .date < 2 ^ 32
-date-small r m i = real-small (r .opening .date) (and-right (goodMode (r .opening .mode)) _ (and-left _ (not (aidRefused (r .opening .aid))) (i .opening)))
+date-small r m i = real-small (r .opening .date) (and-right (modeInRange (r .opening .mode)) _ (and-left _ (not (aidRefused (r .opening .aid))) (i .opening)))
 
 layout-length : (a o f : List ℕ) (d x : ℕ) → length (layout a o d f x) ≡ length a + length o + 4 + length f + 4
 unfolding layout
@@ -91,7 +91,7 @@ layout-length a o f d x = simp length-append
 
 -- a stamp has 45 bytes
 pub stamp-length : (r : Reading) (m : List ℕ) → Invariant r m → length (stampOf (finding r)) ≡ stampSize
-unfolding stampIn stampHead
+unfolding stampIn stampHead stampSize
 stamp-length r m i =
     rw (← stamp-is r m i, layout-length, i .judged .six, fascn-long (r .opening .mode) (r .found .step1) m (i .one)) refl
 

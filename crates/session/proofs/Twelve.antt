@@ -62,7 +62,7 @@ example date =
     (answered-by ((0x53 ∷ 0x27 ∷ []) ++ fields ++ (0x90 ∷ 0x00 ∷ []))
     (Arguments.verdict 3 1 (sample ++ (0xe2 ∷ [])) ∷ [])))
 
--- What the definitions give, beside what the paper yesNo: a, its check value, b, c; d, e, f, g; h, with 53 27 and with 53 81 27, where all starts are one more; i; j and k,
+-- What the definitions give, beside what the paper says: a, its check value, b, c; d, e, f, g; h, with 53 27 and with 53 81 27, where all starts are one more; i; j and k,
 -- the outcome of check 3 where the example is opened on its expiry, 20110410, and a day later; l; and the example's stamp.
 pub table : List (List ℕ × List ℕ)
 unfolding sample digits fields opening answered-by
@@ -85,5 +85,5 @@ table =
     ∷ []
 
 pub twelve : map (λ row. row .0) table ≡ map (λ row. row .1) table
-unfolding example opening answered-by tables.needs tables.checkServed tables.neededAt tables.neededOutcomes tables.verdictOutcome tables.expiryOutcome tables.listed tables.listOutcome tables.lowestFrom tables.causeOf tables.allPassed tables.standingOf tables.commandBytes tables.ruleCause tables.objectCause tables.joinedCause tables.layout commandRefused answerRefused goodEnd judged answerTaken verdictRefused read finding stampOf number sameBytes isDigitAt spelled goodDate dateOf tlvsFrom tlvsOf every wholeTo lengthsOf justOne goodValue goodFrom templateOf getResponseBytes selectBytes getDataBytes statusOf bytesAt fieldValue objectTag charBit sentBit bytesOf valuesFrom valuesOf packRefusal packOf keyOf table answer real object place partIn realDate daysIn objectOf objectFrom fieldsAnswer fieldsFrom rowField fieldFrom rowsOf onlyOf onlyFrom headerOf afterTag endingOf tagSize tagNumber lengthSize lengthOf unpackOf unpackRefusal bitAt valueAt oddAt valuesIn digitsFrom marksFrom decimalAt checkValue all listOf sliceOf xorOf
+unfolding example opening answered-by tables.objectSize tables.capacity tables.needs tables.checkServed tables.neededAt tables.neededOutcomes tables.verdictOutcome tables.expiryOutcome tables.listed tables.listOutcome tables.lowestFrom tables.causeOf tables.allPassed tables.standingOf tables.commandBytes tables.ruleCause tables.objectCause tables.joinedCause tables.layout commandRefused answerRefused goodEnd judged answerTaken verdictRefused read finding stampOf number sameBytes isDigitAt spelled goodDate dateOf tlvsFrom tlvsOf every wholeTo lengthsOf justOne goodValue goodFrom templateOf getResponseBytes selectBytes getDataBytes statusOf bytesAt fieldValue objectTag charBit sentBit bytesOf valuesFrom valuesOf packRefusal packOf keyOf table answer real object place partIn realDate daysIn objectOf objectFrom fieldsAnswer fieldsFrom rowField fieldFrom rowsOf onlyOf onlyFrom headerOf afterTag endingOf tagSize tagNumber lengthSize lengthOf unpackOf unpackRefusal bitAt valueAt oddAt valuesIn digitsFrom marksFrom decimalAt checkValue all listOf sliceOf xorOf
 twelve = refl

@@ -9,11 +9,11 @@ use lib.ListN.{length}
 use Rattle.card.specs.Fascn.{unpackOf}
 use Rattle.card.specs.Date.{realDate}
 use Rattle.card.specs.Command.{aidRefused}
-use Rattle.session.specs.Tables.{goodMode, goodKind, needs, checkServed, outcomeOf, awaited, ends, objectSize, stampSize}
+use Rattle.session.specs.Tables.{modeOpens, goodKind, needs, checkServed, outcomeOf, awaited, ends, objectSize, stepOfTag, stepRead, statusSize, answerMost, stampSize}
 
 -- Open: 1 mode not 1–4; 2 date not real; 3 AID not 5–16 bytes.
 abbrev pub openConditions : ℕ → ℕ → List ℕ → List (ℕ × Bool)
-openConditions mode date aid = (1, not (goodMode mode)) ∷ (2, not (realDate date)) ∷ (3, aidRefused aid) ∷ []
+openConditions mode date aid = (1, not (modeOpens mode)) ∷ (2, not (realDate date)) ∷ (3, aidRefused aid) ∷ []
 
 -- "nothing to send: step 3, a cause of 16 to 22, or a command outstanding"
 abbrev pub nothingToSend : ℕ → ℕ → Bool → Bool
@@ -27,7 +27,7 @@ commandConditions step cause outstanding room count =
 -- Answer: 5 no command outstanding; 7 object buffer not 8,192 bytes; 8 answer under 2 or over 258 bytes.
 abbrev pub answerConditions : Bool → ℕ → ℕ → List (ℕ × Bool)
 answerConditions outstanding size n =
-    (5, not outstanding) ∷ (7, not (eqb size objectSize)) ∷ (8, not (leb 2 n && leb n 258)) ∷ []
+    (5, not outstanding) ∷ (7, not (eqb size objectSize)) ∷ (8, not (leb statusSize n && leb n answerMost)) ∷ []
 
 -- Verdict: 9 step not 3; 10 kind not 1–4; 11 verdict not 0 (no) or 1 (yes); 12 not 25 bytes or ill-formed FASC-N; 13 mode doesn't need it; 14 that kind already given
 -- (its outcome isn't 1).
@@ -41,9 +41,10 @@ verdictConditions mode step outcomes kind yesNo fascn =
     ∷ (14, not (eqb (outcomeOf outcomes (checkServed kind)) awaited))
     ∷ []
 
--- Field: 7 object buffer not 8,192 bytes.
-abbrev pub fieldConditions : ℕ → List (ℕ × Bool)
-fieldConditions size = (7, not (eqb size objectSize)) ∷ []
+-- Field: "the empty part, no number, for refusal 4 or 7, another tag, or a field not yet read or absent. A field is read from the good end of its step on." 4 comes before
+-- these; an absent field is empty by itself.
+abbrev pub fieldRefused : ℕ → ℕ → ℕ → ℕ → Bool
+fieldRefused mode step size tag = not (eqb size objectSize) || (eqb (stepOfTag tag) 0 || not (stepRead mode step (stepOfTag tag)))
 
 -- Stamp: 6 buffer under 45 bytes.
 abbrev pub stampConditions : ℕ → List (ℕ × Bool)

@@ -9,7 +9,7 @@ use Prim.Native.Nat.{ℕ, _≤_}
 use lib.Dec.{eqb}
 use lib.ListN.{replicate}
 use Rattle.card.specs.Fascn.{packOf}
-use Rattle.session.specs.Tables.{needs, goodKind, checkServed, causeOf, standingOf, listed, fascnRead, digitsRead, keyRead, expiryRead, headOf, layout}
+use Rattle.session.specs.Tables.{needs, goodKind, checkServed, causeOf, allPassed, standingOf, listed, fascnRead, digitsRead, keyRead, expiryRead, headOf, layout}
 use Rattle.session.specs.Reading.{StepOne, Verdict, Reading}
 
 pub record Finding : Type 0 where
@@ -72,10 +72,11 @@ unfoldable pub verdictOn : ℕ → List Verdict → Option Verdict
 verdictOn kind [] = Option.none
 verdictOn kind (v ∷ vs) = cond (eqb (v .kind) kind) (Option.some v) (verdictOn kind vs)
 
--- Step 3, and, on the one FASC-N read in step 1: the field 35 read with it is not before the opening date, its key is not in the list lent with the answer that
--- ended step 1, and each verdict that the mode needs was accepted as a yes on those 25 bytes.
+-- "every check of its mode passed in that reading, on one FASC-N that hadn't expired and wasn't cancelled": each needed outcome is 2; step 1 was read, and on the one
+-- FASC-N in it the field 35 read with it is not before the opening date, its key is not in the list lent with the answer that ended step 1, and each verdict that the mode
+-- needs was accepted as a yes on those 25 bytes. That the step is 3 follows (`at-step-3`, proofs/GrantLaws.antt).
 pub record Granted (r : Reading) : Type 0 where
-  pub all-read : r .progress .step ≡ 3
+  pub passed : allPassed (r .opening .mode) (r .outcomes) ≡ true
   pub one : StepOne
   pub read : r .found .step1 ≡ Option.some one
   pub in-time : r .opening .date ≤ expiryRead (r .opening .mode) (one .joined)

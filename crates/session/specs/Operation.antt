@@ -1,6 +1,6 @@
 -- What each call on a session gives, and what it leaves in the buffers that it is lent: the contracts cite these, for every session and every buffer.
 -- Assumes nothing.
-use mathlib.Core.Bool.{Bool, true, false, cond, not, _&&_}
+use mathlib.Core.Bool.{Bool, true, false, cond, _||_}
 use mathlib.Core.List.{List, [], _∷_}
 use Prim.Native.Nat.{ℕ, _+_}
 use lib.Dec.{eqb}
@@ -12,8 +12,8 @@ use Rattle.card.specs.Command.{statusOf}
 use Rattle.card.specs.declared.object.Part.{Part}
 use Rattle.card.specs.declared.command.Status.{Status}
 use Rattle.card.specs.declared.command.Status.the-variants.{Done, More, Other}
-use Rattle.session.specs.Tables.{checks, checkServed, withOutcome, neededOutcomes, verdictOutcome, causeOf, standingOf, kindAt, stepAfter, baseOf, capacity, stepOfTag, commandBytes, isResponse, dataOf, statusBytes, ruleCause, statusShown, fascnRead, expiryRead, judgedOutcomes, joinedCause, headOf, layout}
-use Rattle.session.specs.Condition.{openConditions, commandConditions, answerConditions, verdictConditions, fieldConditions, stampConditions}
+use Rattle.session.specs.Tables.{checks, checkServed, withOutcome, neededOutcomes, verdictOutcome, causeOf, standingOf, kindAt, stepAfter, baseOf, capacity, stepOfTag, NextCommand, commandBytes, isResponse, dataOf, statusBytes, ruleCause, statusShown, fascnRead, expiryRead, judgedOutcomes, joinedCause, headOf, layout}
+use Rattle.session.specs.Condition.{openConditions, commandConditions, answerConditions, verdictConditions, fieldRefused, stampConditions}
 use Rattle.session.specs.Ranges.{outOfRange}
 use Rattle.session.specs.declared.state.SessionOpening.{SessionOpening}
 use Rattle.session.specs.declared.state.SessionProgress.{SessionProgress}
@@ -90,9 +90,14 @@ openOf mode date aid = cond (eqb (openRefusal mode date aid) 0) (0, opened mode 
 
 -- ---- command
 
+-- The command that is next, as the code has it.
+abbrev pub nextOf : Next → NextCommand
+nextOf Initial = NextCommand.ofStep
+nextOf (GetResponse second) = NextCommand.getResponse second
+
 -- The bytes of the session's next command.
 unfoldable pub commandIn : Session → List ℕ
-commandIn s = commandBytes (s .opening .mode) (take (s .opening .«aid_len») (s .opening .aid)) (s .progress .step) (s .progress .next)
+commandIn s = commandBytes (s .opening .mode) (take (s .opening .«aid_len») (s .opening .aid)) (s .progress .step) (nextOf (s .progress .next))
 
 unfoldable pub commandRefusal : Session → ℕ → ℕ
 commandRefusal s room =
@@ -116,10 +121,10 @@ commandBuffer s out = cond (eqb (commandRefusal s (length out)) 0) (overFront (c
 unfoldable pub answerRefusal : Session → ℕ → ℕ → ℕ
 answerRefusal s size n = refusalOf ((4, outOfRange s) ∷ answerConditions (s .progress .outstanding) size n)
 
--- A cause ends the reading.
-abbrev pub progressStopped : SessionProgress → ℕ → ℕ → ℕ → SessionProgress
-progressStopped p cause sw1 sw2 =
-    record { step = p .step; filled = p .filled; outstanding = false; next = p .next; cause = cause; sw1 = sw1; sw2 = sw2 }
+-- A cause ends the reading, with so many bytes of the step's data in the object buffer.
+abbrev pub progressStopped : SessionProgress → ℕ → ℕ → ℕ → ℕ → SessionProgress
+progressStopped p filled cause sw1 sw2 =
+    record { step = p .step; filled = filled; outstanding = false; next = p .next; cause = cause; sw1 = sw1; sw2 = sw2 }
 
 -- More data is to be asked for, n bytes being appended.
 abbrev pub progressContinued : SessionProgress → ℕ → ℕ → SessionProgress
@@ -158,12 +163,12 @@ goodEndSession s joined cancelled =
 unfoldable pub judgedSession : Session → List ℕ → List ℕ → Session
 judgedSession s joined cancelled =
     let k = joinedCause (s .opening .mode) (s .progress .step) joined in
-    cond (eqb k 0) (goodEndSession s joined cancelled) (withSessionProgress s (progressStopped (s .progress) k 0 0))
+    cond (eqb k 0) (goodEndSession s joined cancelled) (withSessionProgress s (progressStopped (s .progress) (length joined) k 0 0))
 
 -- The cause of rules 1 to 3.
 abbrev pub causeIn : Session → Status → ℕ → ℕ
 causeIn s status n =
-    ruleCause status (isResponse (s .progress .next)) n (s .progress .filled) (capacity (s .opening .mode) (s .progress .step))
+    ruleCause status (isResponse (nextOf (s .progress .next))) n (s .progress .filled) (capacity (s .opening .mode) (s .progress .step))
 
 -- Where the data of the next answer is stored in the object buffer, and the step's joined data once n bytes are.
 abbrev pub placeOf : SessionProgress → ℕ
@@ -184,7 +189,7 @@ answerTakenSession s object bytes status cancelled =
     let k = causeIn s (statusOf status) (length bytes) in
     cond (eqb k 0)
     (appendedSession (statusOf status) s (joinedIn (s .progress) (overPlaces object (placeOf (s .progress)) bytes) (length bytes)) (length bytes) cancelled)
-    (withSessionProgress s (progressStopped (s .progress) k (statusShown k (getD status 0 0)) (statusShown k (getD status 1 0))))
+    (withSessionProgress s (progressStopped (s .progress) (s .progress .filled) k (statusShown k (getD status 0 0)) (statusShown k (getD status 1 0))))
 
 unfoldable pub answerTakenBuffer : Session → List ℕ → List ℕ → List ℕ → List ℕ
 answerTakenBuffer s object bytes status =
@@ -222,9 +227,6 @@ verdictOf s kind yesNo fascn =
 
 -- ---- field
 
-unfoldable pub fieldRefusal : Session → ℕ → ℕ
-fieldRefusal s size = refusalOf ((4, outOfRange s) ∷ fieldConditions size)
-
 -- The parts of a step's object.
 abbrev pub partsAt : Card → ℕ → List Part
 partsAt c step = cond (eqb step 2) (c .step2) (c .step1)
@@ -237,7 +239,7 @@ partFor s step tag = partIn (rowsOf (kindAt (s .opening .mode) step)) (partsAt (
 unfoldable pub fieldOf : Session → List ℕ → ℕ → List ℕ
 fieldOf s object tag =
     let step = stepOfTag tag in
-    cond (eqb (fieldRefusal s (length object)) 0 && not (eqb step 0)) (bytesAt (drop (baseOf step) object) (partFor s step tag)) []
+    cond (outOfRange s || fieldRefused (s .opening .mode) (s .progress .step) (length object) tag) [] (bytesAt (drop (baseOf step) object) (partFor s step tag))
 
 -- ---- stamp
 

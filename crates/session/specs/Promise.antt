@@ -11,9 +11,9 @@ use lib.ListN.{length, getD, take}
 use Rattle.card.specs.Lists.{overFront}
 use Rattle.card.specs.Date.{realDate}
 use Rattle.card.specs.Command.{aidRefused}
-use Rattle.session.specs.Tables.{goodMode, stampSize}
+use Rattle.session.specs.Tables.{modeInRange, answersMost, stampSize}
 use Rattle.session.specs.Ranges.{inRange}
-use Rattle.session.specs.Operation.{replyNumber, opened, commandOf, commandBuffer, answerRefusal, answerOf, answerBuffer, verdictOf, fieldRefusal, fieldOf, stampAnswer, stampBuffer}
+use Rattle.session.specs.Operation.{replyNumber, opened, commandOf, commandBuffer, answerRefusal, answerOf, answerBuffer, verdictOf, fieldOf, stampAnswer, stampBuffer}
 use Rattle.session.specs.Reading.{Opening, Arguments, Reading, begins, nextCommand, refusedBy, reading, refusals, fieldIn, answersIn, answers}
 use Rattle.session.specs.Finding.{Finding, finding, standing, stampOf, Granted}
 use Rattle.session.specs.declared.state.Session.{Session}
@@ -43,12 +43,12 @@ pub record Host : Type 0 where
   pub session : Session
   pub object : List ℕ
 
--- The number that the call gives, 0 where it is accepted.
+-- The number that the call gives, 0 where it is accepted. A field call gives none: 0 stands in its place.
 abbrev pub callNumber : Host → Call → ℕ
 callNumber h (Call.command out) = commandOf (h .session) (length out) .0
 callNumber h (Call.answer object bytes cancelled) = answerOf (h .session) object bytes cancelled .0
 callNumber h (Call.verdict kind yesNo fascn) = verdictOf (h .session) kind yesNo fascn .0
-callNumber h (Call.field object tag) = fieldRefusal (h .session) (length object)
+callNumber h (Call.field object tag) = 0
 callNumber h (Call.stamp out) = stampAnswer (h .session) (length out) .0
 
 -- "Each gets the session as the call before left it"; "only the list's answer calls write" the object buffer.
@@ -75,12 +75,13 @@ numbers h (c ∷ cs) = callNumber h c ∷ numbers (hostAfter h c) cs
 abbrev pub Bytes : List ℕ → Type 0
 Bytes s = (i : ℕ) → getD s i 0 < 256
 
--- "The answer and field calls not refused are lent one and the same object buffer"; a refused one may be lent anything. An answer is bytes.
+-- "The answer and field calls not refused are lent one and the same object buffer"; a refused one may be lent anything. A field call changes nothing, so that in the list it
+-- may be lent anything too. An answer is bytes.
 abbrev pub LentNow : Host → Call → Type 0
 LentNow h (Call.command out) = Unit
 LentNow h (Call.answer object bytes cancelled) = (callNumber h (Call.answer object bytes cancelled) ≡ 0 → object ≡ h .object) × Bytes bytes
 LentNow h (Call.verdict kind yesNo fascn) = Unit
-LentNow h (Call.field object tag) = callNumber h (Call.field object tag) ≡ 0 → object ≡ h .object
+LentNow h (Call.field object tag) = Unit
 LentNow h (Call.stamp out) = Unit
 
 abbrev pub Lent : Host → List Call → Type 0
@@ -90,7 +91,7 @@ Lent h (c ∷ cs) = LentNow h c × Lent (hostAfter h c) cs
 -- ---- a history: a good opening, any first content of the object buffer, and a list of calls
 
 abbrev pub goodOpening : Opening → Bool
-goodOpening o = (goodMode (o .mode) && realDate (o .date)) && not (aidRefused (o .aid))
+goodOpening o = (modeInRange (o .mode) && realDate (o .date)) && not (aidRefused (o .aid))
 
 abbrev pub host : Opening → List ℕ → Host
 host o object = record { session = opened (o .mode) (o .date) (o .aid); object = object }
@@ -137,19 +138,19 @@ pub record Promise (h : History) : Type 0 where
   pub command-bytes : (out : List ℕ) → commandBuffer (finish h .session) out ≡ commandFor (readingOf h) out
   -- c: a field call made next, lent the host's buffer, gives the field's value in its step's joined data
   pub field-value : (tag : ℕ) → fieldOf (finish h .session) (finish h .object) tag ≡ fieldIn (readingOf h) tag
-  -- d: each call of the list was refused where the reading yesNo so, by that number; refusal 4 fits none
+  -- where the reading has none, the part is empty, whatever buffer is lent
+  pub field-empty : (object : List ℕ) (tag : ℕ) → fieldIn (readingOf h) tag ≡ [] → fieldOf (finish h .session) object tag ≡ []
+  -- d: each call of the list was refused where the reading says so, by that number; refusal 4 fits none
   pub refused : numbers (start h) (h .calls) ≡ refusals (begins (h .opening)) (argumentsIn h)
   pub never-four : (i : ℕ) → getD (numbers (start h) (h .calls)) i 0 ≡ 4 → ⊥
   pub in-range : inRange (finish h .session) ≡ true
+  -- e: "Two such stamps, from whatever two openings, are equal exactly when their two lists have the same finding."
+  pub apart : (u : History) → (stampOf (finding (readingOf h)) ≡ stampOf (finding (readingOf u))) ↔ (finding (readingOf h) ≡ finding (readingOf u))
   -- f: granted, said of the calls
   pub granted : (standing (finding (readingOf h)) ≡ 1) ↔ Granted (readingOf h)
   -- g: at most 4,098 answers are taken in a step, and 12,294 in all
-  pub answers-step : (step : ℕ) → answersIn step (begins (h .opening)) (argumentsIn h) ≤ 4098
-  pub answers-all : answers (begins (h .opening)) (argumentsIn h) ≤ 12294
-
--- e: "Two such stamps, from whatever two openings, are equal exactly when their two lists have the same finding."
-pub record Apart (h u : History) : Type 0 where
-  pub stamps : (stampOf (finding (readingOf h)) ≡ stampOf (finding (readingOf u))) ↔ (finding (readingOf h) ≡ finding (readingOf u))
+  pub answers-step : (step : ℕ) → answersIn step (begins (h .opening)) (argumentsIn h) ≤ answersMost (h .opening .mode) step
+  pub answers-all : let most = answersMost (h .opening .mode) in answers (begins (h .opening)) (argumentsIn h) ≤ most 0 + most 1 + most 2
 
 -- ---- the promise as the contracts carry it: for every history that leads to the session, and to the buffer, of the call
 
@@ -198,14 +199,16 @@ pub record VerdictPromised (h : History) (kind yesNo : ℕ) (fascn : List ℕ) (
 abbrev pub VerdictPromise : Session → ℕ → ℕ → List ℕ → Answered → Type 0
 VerdictPromise s kind yesNo fascn r = (h : History) → s ≡ finish h .session → VerdictPromised h kind yesNo fascn r
 
+-- Lent the host's buffer, it gives the field's value; a field that the reading has not is the empty part of whatever buffer was lent. The host's buffer stays.
 pub record FieldPromised (h : History) (s : Session) (object : List ℕ) (tag : ℕ) (given : List ℕ) : Type 0 where
-  pub value : given ≡ fieldIn (readingOf h) tag
-  pub extended : ExtendedBy h (Call.field object tag) s object
+  pub value : object ≡ finish h .object → given ≡ fieldIn (readingOf h) tag
+  pub empty : fieldIn (readingOf h) tag ≡ [] → given ≡ []
+  pub extended : ExtendedBy h (Call.field object tag) s (finish h .object)
 
 abbrev pub FieldPromise : Session → List ℕ → ℕ → List ℕ → Type 0
-FieldPromise s object tag given = (h : History) → s ≡ finish h .session → object ≡ finish h .object → FieldPromised h s object tag given
+FieldPromise s object tag given = (h : History) → s ≡ finish h .session → FieldPromised h s object tag given
 
--- Where it is not refused, the second byte yesNo granted exactly where the calls do, and the 45 bytes are the stamp of any other history exactly where the two
+-- Where it is not refused, the second byte says granted exactly where the calls do, and the 45 bytes are the stamp of any other history exactly where the two
 -- findings are the same.
 pub record StampPromised (h : History) (before left : List ℕ) (r : Answered) : Type 0 where
   pub number : replyNumber (r .reply) ≡ refusedBy (readingOf h) (Arguments.stamp (length before))

@@ -12,10 +12,8 @@ use Rattle.card.specs.Object.{fieldValue}
 use Rattle.card.specs.Command.{statusOf}
 use Rattle.card.specs.declared.command.Status.{Status}
 use Rattle.card.specs.declared.command.Status.the-variants.{Done, More, Other}
-use Rattle.session.specs.Tables.{checkServed, neededOutcomes, withOutcome, verdictOutcome, judgedOutcomes, kindAt, stepAfter, capacity, stepOfTag, commandBytes, isResponse, dataOf, statusBytes, ruleCause, statusShown, fascnRead, joinedCause}
-use Rattle.session.specs.Condition.{commandConditions, answerConditions, verdictConditions, fieldConditions, stampConditions}
-use Rattle.session.specs.declared.state.Next.{Next}
-use Rattle.session.specs.declared.state.Next.the-variants.{Initial, GetResponse}
+use Rattle.session.specs.Tables.{checkServed, neededOutcomes, withOutcome, verdictOutcome, judgedOutcomes, kindAt, stepAfter, capacity, stepOfTag, NextCommand, commandBytes, isResponse, dataOf, statusBytes, ruleCause, statusShown, fascnRead, joinedCause}
+use Rattle.session.specs.Condition.{commandConditions, answerConditions, verdictConditions, stampConditions}
 
 -- ---- what the reading is fed
 
@@ -44,7 +42,7 @@ pub record Progress : Type 0 where
   pub sw2 : ℕ
   pub joined : List ℕ
   pub outstanding : Bool
-  pub next : Next
+  pub next : NextCommand
 
 -- Step 1's joined data at its good end, and the list lent with the answer that ended it.
 pub record StepOne : Type 0 where
@@ -73,7 +71,7 @@ pub record Reading : Type 0 where
 
 -- A step begins: no data of its own yet, and its command is next.
 abbrev pub atStep : ℕ → Progress
-atStep step = record { step = step; cause = 0; sw1 = 0; sw2 = 0; joined = []; outstanding = false; next = Initial }
+atStep step = record { step = step; cause = 0; sw1 = 0; sw2 = 0; joined = []; outstanding = false; next = NextCommand.ofStep }
 
 -- "It starts at step 0 with no cause, no data, no command outstanding, SELECT next, needed outcomes 1, others 0."
 abbrev pub begins : Opening → Reading
@@ -101,15 +99,15 @@ sending c =
 unfoldable pub answerRefused : Reading → ℕ → ℕ → ℕ
 answerRefused r size n = refusalOf (answerConditions (r .progress .outstanding) size n)
 
--- "A cause of 16 to 22 ends the reading at that step for good."
-abbrev pub stopped : Progress → ℕ → ℕ → ℕ → Progress
-stopped c cause sw1 sw2 =
-    record { step = c .step; cause = cause; sw1 = sw1; sw2 = sw2; joined = c .joined; outstanding = false; next = c .next }
+-- "A cause of 16 to 22 ends the reading at that step for good." The joined data is what the step had, or, where it was judged, what was appended to that too.
+abbrev pub stopped : Progress → List ℕ → ℕ → ℕ → ℕ → Progress
+stopped c joined cause sw1 sw2 =
+    record { step = c .step; cause = cause; sw1 = sw1; sw2 = sw2; joined = joined; outstanding = false; next = c .next }
 
 -- "After 61 GET RESPONSE is next."
 abbrev pub continued : Progress → List ℕ → ℕ → Progress
 continued c joined second =
-    record { step = c .step; cause = 0; sw1 = 0; sw2 = 0; joined = joined; outstanding = false; next = GetResponse second }
+    record { step = c .step; cause = 0; sw1 = 0; sw2 = 0; joined = joined; outstanding = false; next = NextCommand.getResponse second }
 
 -- Step 1's good end sets checks 3 and 4; what was read is kept, with the list.
 abbrev pub step1End : Reading → List ℕ → List ℕ → Reading
@@ -142,7 +140,7 @@ goodEnd r joined cancelled =
 unfoldable pub judged : Reading → List ℕ → List ℕ → Reading
 judged r joined cancelled =
     let k = joinedCause (r .opening .mode) (r .progress .step) joined in
-    cond (eqb k 0) (goodEnd r joined cancelled) (withProgress r (stopped (r .progress) k 0 0))
+    cond (eqb k 0) (goodEnd r joined cancelled) (withProgress r (stopped (r .progress) joined k 0 0))
 
 -- Rule 4: "the data is appended. After 61 GET RESPONSE is next. After 90 00 the step's joined data is judged". Any other status word gave cause 16 by rule 1, and
 -- does not come here.
@@ -160,7 +158,7 @@ unfoldable pub answerTaken : Reading → List ℕ → List ℕ → List ℕ → 
 answerTaken r bytes status cancelled =
     let k = causeBy (r .progress) (capacity (r .opening .mode) (r .progress .step)) (statusOf status) bytes in
     cond (eqb k 0) (appended (statusOf status) r (r .progress .joined ++ bytes) cancelled)
-    (withProgress r (stopped (r .progress) k (statusShown k (getD status 0 0)) (statusShown k (getD status 1 0))))
+    (withProgress r (stopped (r .progress) (r .progress .joined) k (statusShown k (getD status 0 0)) (statusShown k (getD status 1 0))))
 
 -- ---- a verdict call: "sets its check's outcome"
 
@@ -184,12 +182,12 @@ verdictTaken r kind yesNo fascn =
 
 -- ---- every call
 
--- The number that refuses a call, by its arguments and the reading; 0 where none does.
+-- The number that refuses a call, by its arguments and the reading; 0 where none does. A field call has no number: 0 stands in its place, and says nothing of it.
 abbrev pub refusedBy : Reading → Arguments → ℕ
 refusedBy r (Arguments.command room) = commandRefused r room
 refusedBy r (Arguments.answer size bytes cancelled) = answerRefused r size (length bytes)
 refusedBy r (Arguments.verdict kind yesNo fascn) = verdictRefused r kind yesNo fascn
-refusedBy r (Arguments.field size tag) = refusalOf (fieldConditions size)
+refusedBy r (Arguments.field size tag) = 0
 refusedBy r (Arguments.stamp room) = refusalOf (stampConditions room)
 
 -- What a call that is accepted makes of the reading. "Field and stamp calls change nothing."

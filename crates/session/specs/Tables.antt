@@ -17,8 +17,6 @@ use Rattle.card.specs.declared.object.Kind.{Kind}
 use Rattle.card.specs.declared.object.Kind.the-variants.{Signed, Unsigned, Fingers}
 use Rattle.card.specs.declared.command.Status.{Status}
 use Rattle.card.specs.declared.command.Status.the-variants.{Done, More, Other}
-use Rattle.session.specs.declared.state.Next.{Next}
-use Rattle.session.specs.declared.state.Next.the-variants.{Initial, GetResponse}
 
 -- ---- modes and checks
 
@@ -26,9 +24,16 @@ use Rattle.session.specs.declared.state.Next.the-variants.{Initial, GetR
 abbrev pub checks : ℕ
 checks = 6
 
--- Modes 1 to 4 are built.
-abbrev pub goodMode : ℕ → Bool
-goodMode mode = leb 1 mode && leb mode 4
+-- "Modes 1 to 4 are built."
+abbrev pub greatestMode : ℕ
+greatestMode = 4
+
+-- The modes of a session in range, and the modes that may be opened.
+abbrev pub modeInRange : ℕ → Bool
+modeInRange mode = leb 1 mode && leb mode greatestMode
+
+abbrev pub modeOpens : ℕ → Bool
+modeOpens mode = modeInRange mode
 
 -- Mode 1 needs 1–4, mode 2 needs 3–5, mode 3 needs 1–4 and 6, mode 4 all.
 abbrev pub checksOf : ℕ → List ℕ
@@ -47,8 +52,11 @@ unfoldable pub needs : ℕ → ℕ → Bool
 needs mode check = isIn check (checksOf mode)
 
 -- Verdict kinds 1, 2, 3, 4 serve checks 1, 2, 5, 6.
+abbrev pub greatestKind : ℕ
+greatestKind = 4
+
 abbrev pub goodKind : ℕ → Bool
-goodKind kind = leb 1 kind && leb kind 4
+goodKind kind = leb 1 kind && leb kind greatestKind
 
 unfoldable pub checkServed : ℕ → ℕ
 checkServed kind = cond (eqb kind 1) 1 (cond (eqb kind 2) 2 (cond (eqb kind 3) 5 6))
@@ -103,9 +111,28 @@ listOutcome key cancelled = cond (listed key cancelled) failed passed
 
 -- ---- cause and standing
 
--- A cause of 16 to 22 ends the reading.
+-- The causes that end the reading, 16 to 22: a status word that is neither 90 00 nor 61 with any second byte; 61 without data to GET RESPONSE; a step's total past its
+-- capacity; template malformed; object malformed; FASC-N ill-formed; date ill-formed.
+abbrev pub statusCause : ℕ
+statusCause = 16
+
+abbrev pub emptyCause : ℕ
+emptyCause = 17
+
+abbrev pub fullCause : ℕ
+fullCause = 18
+
+abbrev pub malformedCause : ℕ
+malformedCause = 20
+
+abbrev pub fascnCause : ℕ
+fascnCause = 21
+
+abbrev pub dateCause : ℕ
+dateCause = 22
+
 abbrev pub ends : ℕ → Bool
-ends cause = leb 16 cause && leb cause 22
+ends cause = leb statusCause cause && leb cause dateCause
 
 -- The lowest check with outcome 3 or 4, of the outcomes of check c and those after it; 0 where there is none.
 unfoldable pub lowestFrom : ℕ → List ℕ → ℕ
@@ -137,15 +164,24 @@ abbrev pub stepAfter : ℕ → ℕ → ℕ
 stepAfter mode step = cond (eqb step 0) 1 (cond (eqb step 1 && hasStep2 mode) 2 3)
 
 -- "The object buffer is 8,192 bytes: steps 0 and 1 fill from byte 0, step 2 fills from byte 4,096, each at most 4,096 bytes."
-abbrev pub objectSize : ℕ
+-- These figures do not unfold by themselves: proofs/FigureLaws.antt has what is to be known of them.
+unfoldable pub objectSize : ℕ
 objectSize = 8192
 
-abbrev pub baseOf : ℕ → ℕ
+unfoldable pub baseOf : ℕ → ℕ
 baseOf step = cond (eqb step 2) 4096 0
 
 -- The most that a step may hold, by mode and step.
-abbrev pub capacity : ℕ → ℕ → ℕ
+unfoldable pub capacity : ℕ → ℕ → ℕ
 capacity mode step = 4096
+
+-- "At most 4,098 answers are taken for each step": one without data, then one a byte, and one that ends the reading.
+abbrev pub answersMost : ℕ → ℕ → ℕ
+answersMost mode step = capacity mode step + 2
+
+-- Step k has ended well where a later step is reached; step 2 only in a mode that has it.
+abbrev pub stepRead : ℕ → ℕ → ℕ → Bool
+stepRead mode step k = ltb k step && (not (eqb k 2) || hasStep2 mode)
 
 -- The tags that a field call may ask for: 30, 34, 35, 3E of step 1's object, BC of step 2's.
 abbrev pub step1Tags : List ℕ
@@ -160,22 +196,33 @@ stepOfTag tag = cond (isIn tag step1Tags) 1 (cond (isIn tag step2Tags) 2 0)
 
 -- ---- commands and answers
 
--- The bytes of the next command: GET RESPONSE, or the command of the step.
-unfoldable pub commandBytes : ℕ → List ℕ → ℕ → Next → List ℕ
-commandBytes mode aid step Initial = cond (eqb step 0) (selectBytes aid) (getDataBytes (kindAt mode step))
-commandBytes mode aid step (GetResponse second) = getResponseBytes second
+-- The command that is next: that of the step, SELECT or GET DATA, or GET RESPONSE with the second status byte of the answer just taken.
+pub data NextCommand : Type 0 where
+  ofStep : NextCommand
+  getResponse : (second : ℕ) → NextCommand
+
+-- Its bytes.
+unfoldable pub commandBytes : ℕ → List ℕ → ℕ → NextCommand → List ℕ
+commandBytes mode aid step NextCommand.ofStep = cond (eqb step 0) (selectBytes aid) (getDataBytes (kindAt mode step))
+commandBytes mode aid step (NextCommand.getResponse second) = getResponseBytes second
 
 -- The command is GET RESPONSE.
-abbrev pub isResponse : Next → Bool
-isResponse Initial = false
-isResponse (GetResponse second) = true
+abbrev pub isResponse : NextCommand → Bool
+isResponse NextCommand.ofStep = false
+isResponse (NextCommand.getResponse second) = true
 
--- "An answer is data, then two status bytes."
+-- "An answer is data, then two status bytes"; "answer under 2 or over 258 bytes" is refused.
+abbrev pub statusSize : ℕ
+statusSize = 2
+
+abbrev pub answerMost : ℕ
+answerMost = 258
+
 abbrev pub dataOf : List ℕ → List ℕ
-dataOf answer = take (length answer - 2) answer
+dataOf answer = take (length answer - statusSize) answer
 
 abbrev pub statusBytes : List ℕ → List ℕ
-statusBytes answer = drop (length answer - 2) answer
+statusBytes answer = drop (length answer - statusSize) answer
 
 -- "Status neither 90 00 nor 61 with any second byte"; 61 with any second byte.
 abbrev pub isOther : Status → Bool
@@ -192,11 +239,11 @@ isMore Done = false
 -- status and whether the command was GET RESPONSE; 0 where the data is appended.
 unfoldable pub ruleCause : Status → Bool → ℕ → ℕ → ℕ → ℕ
 ruleCause status response n total most =
-    refusalOf ((16, isOther status) ∷ (17, (isMore status && eqb n 0) && response) ∷ (18, ltb most (total + n)) ∷ [])
+    refusalOf ((statusCause, isOther status) ∷ (emptyCause, (isMore status && eqb n 0) && response) ∷ (fullCause, ltb most (total + n)) ∷ [])
 
 -- A byte of the status word that is kept and stamped: "00 00 unless cause 16".
 abbrev pub statusShown : ℕ → ℕ → ℕ
-statusShown cause sw = cond (eqb cause 16) sw 0
+statusShown cause sw = cond (eqb cause statusCause) sw 0
 
 -- The FASC-N, its digits and key, and the expiry in the joined data of step 1.
 abbrev pub fascnRead : ℕ → List ℕ → List ℕ
@@ -221,9 +268,9 @@ judgedOutcomes mode date outcomes joined cancelled =
 unfoldable pub objectCause : ℕ → ℕ → List ℕ → ℕ
 objectCause mode step joined =
     refusalOf
-    ((20, not (eqb (objectOf (kindAt mode step) joined .0) 0))
-    ∷ (21, eqb step 1 && not (eqb (unpackOf (fascnRead mode joined) .0) 0))
-    ∷ (22, eqb step 1 && not (eqb (dateOf (fieldValue (kindAt mode 1) 0x35 joined) .0) 0))
+    ((malformedCause, not (eqb (objectOf (kindAt mode step) joined .0) 0))
+    ∷ (fascnCause, eqb step 1 && not (eqb (unpackOf (fascnRead mode joined) .0) 0))
+    ∷ (dateCause, eqb step 1 && not (eqb (dateOf (fieldValue (kindAt mode 1) 0x35 joined) .0) 0))
     ∷ [])
 
 unfoldable pub joinedCause : ℕ → ℕ → List ℕ → ℕ
@@ -236,7 +283,7 @@ abbrev pub fourBytes : ℕ → List ℕ
 fourBytes n = n / 16777216 % 256 ∷ n / 65536 % 256 ∷ n / 256 % 256 ∷ n % 256 ∷ []
 
 -- "Stamp, 45 bytes: mode, standing, cause, status word (2 bytes), step, outcomes (6), opening date as a number, high byte first (4), FASC-N (25), expiry likewise (4)."
-abbrev pub stampSize : ℕ
+unfoldable pub stampSize : ℕ
 stampSize = 6 + checks + 4 + 25 + 4
 
 abbrev pub headOf : ℕ → ℕ → ℕ → ℕ → ℕ → ℕ → List ℕ

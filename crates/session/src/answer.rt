@@ -1,24 +1,27 @@
 // Answer: the card's answer to the outstanding command.
+use crate::figures::ANSWER_MOST;
+use crate::figures::EMPTY_CAUSE;
+use crate::figures::FULL_CAUSE;
+use crate::figures::OBJECT;
+use crate::figures::STATUS;
+use crate::figures::STATUS_CAUSE;
 use crate::state::Answered;
 use crate::state::Next;
 use crate::state::Reply;
 use crate::state::Session;
-use crate::state::SessionProgress;
 use crate::store;
 use crate::tables;
 use card::command;
 use card::command::Status;
 ghost use mathlib.Core.Path.{_≡_};
-ghost use mathlib.Core.Bool.{true};
 ghost use Prim.Native.Nat.{_+_, _≤_, _<_, _^_};
 ghost use lib.ListN.{length};
-ghost use Rattle.session.specs.Tables.{objectSize, isResponse, isOther, isMore, ruleCause};
-ghost use Rattle.session.specs.Ranges.{inRange};
-ghost use Rattle.session.specs.Operation.{replyNumber, given, withSessionProgress, progressStopped, progressContinued, answerRefusal, causeIn, appendedSession, answerTakenSession, answerTakenBuffer, answerOf, answerBuffer};
+ghost use Rattle.session.specs.Tables.{capacity, objectSize, isResponse, isOther, isMore, statusSize, answerMost, ruleCause};
+ghost use Rattle.session.specs.Operation.{replyNumber, given, nextOf, answerRefusal, causeIn, appendedSession, answerTakenSession, answerTakenBuffer, answerOf, answerBuffer};
 ghost use Rattle.session.specs.Promise.{AnswerPromise};
 
 fn is_response(next: Next) -> bool
-    ensures { λ r. ⌜ r ≡ isResponse next ⌝ }
+    ensures { λ r. ⌜ r ≡ isResponse (nextOf next) ⌝ }
 {
     match next {
         Next::Initial => false,
@@ -48,17 +51,17 @@ fn is_more(status: Status) -> bool
 
 // Rules 1 to 3, the first that fits; 0 where the data is appended.
 fn rule_cause(status: Status, response: bool, n: usize, total: usize, most: usize) -> u8
-    requires { ⌜ (n ≤ 256) × (total ≤ 4096) ⌝ }
+    requires { ⌜ total + n < 2 ^ 64 ⌝ }
     ensures { λ r. ⌜ r ≡ ruleCause status response n total most ⌝ }
 {
     if is_other(status) {
-        return 16;
+        return STATUS_CAUSE;
     }
     if (is_more(status) & (n == 0)) & response {
-        return 17;
+        return EMPTY_CAUSE;
     }
     if most < total + n {
-        return 18;
+        return FULL_CAUSE;
     }
     0
 }
@@ -73,55 +76,29 @@ impl Session {
         if !self.progress.outstanding {
             return Reply::OutOfTurn;
         }
-        if size != 8192 {
+        if size != OBJECT {
             return Reply::WrongObjectBuffer;
         }
-        if !((2 <= n) & (n <= 258)) {
+        if !((STATUS <= n) & (n <= ANSWER_MOST)) {
             return Reply::WrongAnswerLength;
         }
         Reply::Accepted
     }
 
-    // A cause ends the reading.
-    pub(crate) fn stopped(self, cause: u8, sw1: u8, sw2: u8) -> Session
-        ensures { λ r. ⌜ r ≡ withSessionProgress self (progressStopped (self .progress) cause sw1 sw2) ⌝ }
-    {
-        let mut s = self;
-        s.progress.outstanding = false;
-        s.progress.cause = cause;
-        s.progress.sw1 = sw1;
-        s.progress.sw2 = sw2;
-        s
-    }
-
-    // More data is to be asked for, n bytes being appended.
-    fn continued(self, n: usize, second: u8) -> Session
-        requires { ⌜ self .progress .filled + n < 2 ^ 64 ⌝ }
-        ensures { λ r. ⌜ r ≡ withSessionProgress self (progressContinued (self .progress) n second) ⌝ }
-    {
-        let p = self.progress;
-        let progress = SessionProgress {
-            step: p.step,
-            filled: p.filled + n,
-            outstanding: false,
-            next: Next::GetResponse(second),
-            cause: 0,
-            sw1: 0,
-            sw2: 0,
-        };
-        let mut s = self;
-        s.progress = progress;
-        s
-    }
-
     // The cause that rules 1 to 3 give of an answer with n bytes of data.
     fn cause_by(self, status: Status, n: usize) -> u8
-        requires { ⌜ (n ≤ 256) × (self .progress .filled ≤ 4096) ⌝ }
+        requires { ⌜ self .progress .filled + n < 2 ^ 64 ⌝ }
         ensures { λ r. ⌜ r ≡ causeIn self status n ⌝ }
     {
         let p = self.progress;
         let next = p.next;
-        rule_cause(status, is_response(next), n, p.filled, 4096)
+        rule_cause(
+            status,
+            is_response(next),
+            n,
+            p.filled,
+            tables::capacity(self.opening.mode, p.step),
+        )
     }
 
     // After 61 GET RESPONSE is next; after 90 00 the step's joined data is judged.
@@ -144,7 +121,7 @@ impl Session {
         status: &[u8],
         cancelled: &[u64],
     ) -> Session
-        requires { ⌜ (length (now object) ≡ objectSize) × (length (now bytes) ≤ 256) × (length (now status) ≡ 2) × (self .progress .filled ≤ 4096) ⌝ }
+        requires { ⌜ (length (now object) ≡ objectSize) × (length (now bytes) ≤ answerMost) × (length (now status) ≡ statusSize) × (self .progress .filled ≤ capacity (self .opening .mode) (self .progress .step)) ⌝ }
         ensures { λ r. ⌜ r ≡ answerTakenSession self (now (object .entry)) (now (bytes .entry)) (now (status .entry)) (now (cancelled .entry)) ⌝ }
         ensures { λ r. ⌜ now (object .exit) ≡ answerTakenBuffer self (now (object .entry)) (now (bytes .entry)) (now (status .entry)) ⌝ }
     {
@@ -159,10 +136,11 @@ impl Session {
             let end = at + n;
             return self.appended(word, &object[base..end], n, cancelled);
         }
-        if cause == 16 {
-            return self.stopped(cause, status[0], status[1]);
+        let filled = self.progress.filled;
+        if cause == STATUS_CAUSE {
+            return self.stopped(filled, cause, status[0], status[1]);
         }
-        self.stopped(cause, 0, 0)
+        self.stopped(filled, cause, 0, 0)
     }
 
     // The answer's data is appended in the object buffer, and judged where it is the step's last.
@@ -173,7 +151,7 @@ impl Session {
     {
         let reply = self.answer_refusal(object.len(), answer.len());
         if reply.number() == 0 {
-            let n = answer.len() - 2;
+            let n = answer.len() - STATUS;
             let session = self.take_answer(object, &answer[..n], &answer[n..], cancelled);
             return Answered { session, reply };
         }

@@ -40,7 +40,7 @@ impl Session {
                 if progress.step == 0 {
                     let aid = opening.aid;
                     let n = opening.aid_len;
-                    store::sized_16(aid);
+                    store::sized_aid(aid);
                     return command::select(&aid[..n], out);
                 }
                 command::get_data(tables::kind_at(opening.mode, progress.step), out)

@@ -1,4 +1,5 @@
 // Field: the value of a field, as a part of the object buffer.
+use crate::figures::OBJECT;
 use crate::state::Session;
 use crate::tables;
 use card::object;
@@ -32,10 +33,9 @@ impl Session {
         ensures for_every_list { λ r. ⌜ FieldPromise self (now (object .entry)) tag (now r) ⌝ }
     {
         let step = tables::step_of_tag(tag);
-        if self.values().out_of_range() | (object.len() != 8192) {
-            return &object[..0];
-        }
-        if step == 0 {
+        let read = tables::step_read(self.opening.mode, self.progress.step, step);
+        let refused = (object.len() != OBJECT) | ((step == 0) | !read);
+        if self.values().out_of_range() | refused {
             return &object[..0];
         }
         let part = self.part_for(step, tag);

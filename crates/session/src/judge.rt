@@ -1,6 +1,11 @@
 // The joined data of a step, judged once 90 00 has come: its cause, or the next step.
-use crate::open;
-use crate::state::CHECKS;
+use crate::figures::CHECKS;
+use crate::figures::DATE_CAUSE;
+use crate::figures::FAILED;
+use crate::figures::FASCN_CAUSE;
+use crate::figures::MALFORMED_CAUSE;
+use crate::figures::PASSED;
+use crate::progress;
 use crate::state::Card;
 use crate::state::Session;
 use crate::store;
@@ -36,7 +41,7 @@ fn date_number(d: Date) -> u32
 fn expiry_outcome(date: u32, expiry: u32) -> u8
     ensures { λ r. ⌜ r ≡ expiryOutcome date expiry ⌝ }
 {
-    if date <= expiry { 2 } else { 3 }
+    if date <= expiry { PASSED } else { FAILED }
 }
 
 // Whether the key stands anywhere in the list. Every place is looked at: there is no early exit.
@@ -54,7 +59,11 @@ fn listed(key: Key, cancelled: &[u64]) -> bool
 fn list_outcome(key: Key, cancelled: &[u64]) -> u8
     ensures { λ r. ⌜ r ≡ listOutcome (key .0) (now (cancelled .entry)) ⌝ }
 {
-    if listed(key, cancelled) { 3 } else { 2 }
+    if listed(key, cancelled) {
+        FAILED
+    } else {
+        PASSED
+    }
 }
 
 // The value of a field of the object s, whose parts are given.
@@ -94,11 +103,11 @@ impl Session {
         let cause = answer.number();
         if cause == 0 {
             let mut s = self;
-            let progress = open::at_step(1);
+            let progress = progress::at_step(1);
             s.progress = progress;
             return s;
         }
-        self.stopped(cause, 0, 0)
+        self.stopped(joined.len(), cause, 0, 0)
     }
 
     // Step 1's object is good: its FASC-N and its date are judged, and checks 3 and 4 set.
@@ -112,19 +121,19 @@ impl Session {
         let unpacked = fascn::unpack(bytes);
         let well = unpacked.answer;
         if well.number() != 0 {
-            return self.stopped(21, 0, 0);
+            return self.stopped(joined.len(), FASCN_CAUSE, 0, 0);
         }
         let date = date::read(value(kind, parts, joined, 0x35));
         if date.number() != 0 {
-            return self.stopped(22, 0, 0);
+            return self.stopped(joined.len(), DATE_CAUSE, 0, 0);
         }
         let expiry = date_number(date);
         let digits = unpacked.digits;
         let key = fascn::key_of(digits);
         let before = self.outcomes;
         let outcomes = judged_outcomes(before, opening.date, expiry, key, cancelled);
-        let fascn = store::array_25(bytes);
-        let progress = open::at_step(tables::step_after(opening.mode, 1));
+        let fascn = store::array_fascn(bytes);
+        let progress = progress::at_step(tables::step_after(opening.mode, 1));
         let step2 = self.card.step2;
         let card = Card {
             fascn,
@@ -144,7 +153,7 @@ impl Session {
     fn judge_step2(self, parts: [Part; FIELDS]) -> Session
         ensures { λ r. ⌜ r ≡ step2EndSession self parts ⌝ }
     {
-        let progress = open::at_step(3);
+        let progress = progress::at_step(3);
         let mut card = self.card;
         card.step2 = parts;
         let mut s = self;
@@ -165,7 +174,7 @@ impl Session {
         let object = object::parse(kind, joined);
         let answer = object.answer;
         if answer.number() != 0 {
-            return self.stopped(20, 0, 0);
+            return self.stopped(joined.len(), MALFORMED_CAUSE, 0, 0);
         }
         let parts = object.parts;
         if step == 1 {

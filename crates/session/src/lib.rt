@@ -2,8 +2,10 @@
 mod answer;
 mod command;
 mod field;
+pub mod figures;
 mod judge;
 pub mod open;
+mod progress;
 mod range;
 mod stamp;
 pub mod state;

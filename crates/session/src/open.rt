@@ -1,12 +1,12 @@
 // Open: a session from mode, date and AID.
+use crate::figures::CHECKS;
+use crate::figures::FASCN;
+use crate::progress;
 use crate::state::Answered;
-use crate::state::CHECKS;
 use crate::state::Card;
-use crate::state::Next;
 use crate::state::Reply;
 use crate::state::Session;
 use crate::state::SessionOpening;
-use crate::state::SessionProgress;
 use crate::store;
 use crate::tables;
 use card::date;
@@ -15,31 +15,16 @@ use card::object::Part;
 ghost use mathlib.Core.Path.{_≡_};
 ghost use Prim.Native.Nat.{_≤_};
 ghost use lib.ListN.{length};
-ghost use Rattle.session.specs.Operation.{replyNumber, given, progressAtStep, noCard, dead, opened, openRefusal, openOf};
+ghost use Rattle.session.specs.Operation.{replyNumber, given, noCard, dead, opened, openRefusal, openOf};
 ghost use Rattle.session.specs.Promise.{OpenPromise};
 
 const EMPTY: Part = Part { start: 0, len: 0 };
-
-// A step begins.
-pub(crate) fn at_step(step: u8) -> SessionProgress
-    ensures { λ r. ⌜ r ≡ progressAtStep step ⌝ }
-{
-    SessionProgress {
-        step,
-        filled: 0,
-        outstanding: false,
-        next: Next::Initial,
-        cause: 0,
-        sw1: 0,
-        sw2: 0,
-    }
-}
 
 fn no_card() -> Card
     ensures { λ r. ⌜ r ≡ noCard ⌝ }
 {
     Card {
-        fascn: [0; 25],
+        fascn: [0; FASCN],
         expiry: 0,
         step1: [EMPTY; FIELDS],
         step2: [EMPTY; FIELDS],
@@ -56,7 +41,7 @@ pub fn dead_session() -> Session
         aid: [0; 16],
         aid_len: 0,
     };
-    let progress = at_step(0);
+    let progress = progress::at_step(0);
     let card = no_card();
     Session {
         opening,
@@ -69,7 +54,7 @@ pub fn dead_session() -> Session
 fn open_refusal(mode: u8, date: u32, aid: &[u8]) -> Reply
     ensures { λ r. ⌜ replyNumber r ≡ openRefusal mode date (now (aid .entry)) ⌝ }
 {
-    if !tables::good_mode(mode) {
+    if !tables::mode_opens(mode) {
         return Reply::WrongMode;
     }
     if !date::real(date) {
@@ -86,14 +71,14 @@ fn opened(mode: u8, date: u32, aid: &[u8]) -> Session
     requires { ⌜ length (now aid) ≤ 16 ⌝ }
     ensures { λ r. ⌜ r ≡ opened mode date (now (aid .entry)) ⌝ }
 {
-    let bytes = store::array_16(aid);
+    let bytes = store::array_aid(aid);
     let opening = SessionOpening {
         mode,
         date,
         aid: bytes,
         aid_len: aid.len(),
     };
-    let progress = at_step(0);
+    let progress = progress::at_step(0);
     let outcomes = tables::needed_outcomes(mode);
     let card = no_card();
     Session {

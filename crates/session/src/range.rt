@@ -1,5 +1,7 @@
 // The ranges of a session's values: exactly those that document 01 lists.
-use crate::state::CHECKS;
+use crate::figures::CHECKS;
+use crate::figures::OBJECT;
+use crate::figures::OTHER_CARD;
 use crate::state::Session;
 use crate::tables;
 use card::date;
@@ -10,28 +12,29 @@ ghost use mathlib.Core.Bool.{not, _||_};
 ghost use Prim.Native.Nat.{_≤_};
 ghost use lib.Dec.{eqb};
 ghost use Rattle.card.specs.Date.{realDate};
-ghost use Rattle.session.specs.Ranges.{outcomesInRange, partInside, partsInside, valuesInRange, valuesOf};
+ghost use Rattle.session.specs.Tables.{objectSize};
+ghost use Rattle.session.specs.Ranges.{outcomesInRange, partInside, partsInside, valuesInRange, rangedValues};
 
 fn outcomes_in_range(o: [u8; CHECKS]) -> bool
     ensures { λ r. ⌜ r ≡ outcomesInRange o ⌝ }
 {
     let mut ok = true;
     for i in 0..CHECKS {
-        ok = ok & (o[i] <= 4);
+        ok = ok & (o[i] <= OTHER_CARD);
     }
     ok
 }
 
 // Whether a part of a step's data, which begins at `base`, lies inside the object buffer.
 fn part_inside(base: usize, p: Part) -> bool
-    requires { ⌜ base ≤ 4096 ⌝ }
+    requires { ⌜ base ≤ objectSize ⌝ }
     ensures { λ r. ⌜ r ≡ partInside base p ⌝ }
 {
-    base + (p.start as usize) + (p.len as usize) <= 8192
+    base + (p.start as usize) + (p.len as usize) <= OBJECT
 }
 
 fn parts_inside(base: usize, parts: [Part; FIELDS]) -> bool
-    requires { ⌜ base ≤ 4096 ⌝ }
+    requires { ⌜ base ≤ objectSize ⌝ }
     ensures { λ r. ⌜ r ≡ partsInside base parts ⌝ }
 {
     let mut ok = true;
@@ -71,12 +74,13 @@ impl Values {
         ensures { λ r. ⌜ r ≡ not (valuesInRange self) ⌝ }
     {
         let o = self.outcomes;
-        let opening = (tables::good_mode(self.mode) & date::real(self.date))
+        let opening = (tables::mode_in_range(self.mode) & date::real(self.date))
             & ((5 <= self.aid_len) & (self.aid_len <= 16));
         let cause = (self.cause == 0) | tables::ends(self.cause);
-        let step = (self.step <= 3) & (!(self.step == 2) | ((self.mode == 3) | (self.mode == 4)));
+        let step = (self.step <= 3) & (!(self.step == 2) | tables::has_step2(self.mode));
         let turn = !self.outstanding | ((self.step <= 2) & (self.cause == 0));
-        let progress = (step & (self.filled <= 4096)) & (cause & turn);
+        let progress = (step & (self.filled <= tables::capacity(self.mode, self.step)))
+            & (cause & turn);
         let card = expiry_in_range(self.expiry) & self.inside;
         !((opening & progress) & (outcomes_in_range(o) & card))
     }
@@ -84,7 +88,7 @@ impl Values {
 
 impl Session {
     pub(crate) fn values(self) -> Values
-        ensures { λ r. ⌜ r ≡ valuesOf self ⌝ }
+        ensures { λ r. ⌜ r ≡ rangedValues self ⌝ }
     {
         let opening = self.opening;
         let p = self.progress;
@@ -92,7 +96,8 @@ impl Session {
         let card = self.card;
         let step1 = card.step1;
         let step2 = card.step2;
-        let inside = parts_inside(0, step1) & parts_inside(4096, step2);
+        let inside = parts_inside(tables::base_of(1), step1)
+            & parts_inside(tables::base_of(2), step2);
         Values {
             date: opening.date,
             expiry: card.expiry,

@@ -1,4 +1,12 @@
 // Stamp: 45 bytes that say what was found.
+use crate::figures::DATE_AT;
+use crate::figures::EXPIRY_AT;
+use crate::figures::FASCN_AT;
+use crate::figures::HEAD;
+use crate::figures::NUMBER;
+use crate::figures::OUTCOMES_AT;
+use crate::figures::STAMP;
+use crate::figures::STATUS_CAUSE;
 use crate::state::Answered;
 use crate::state::Reply;
 use crate::state::Session;
@@ -13,7 +21,7 @@ ghost use Rattle.session.specs.Operation.{replyNumber, given, stampRefus
 ghost use Rattle.session.specs.Promise.{StampPromise};
 
 // A number of four bytes, high byte first.
-fn four_bytes(n: u32) -> [u8; 4]
+fn four_bytes(n: u32) -> [u8; NUMBER]
     ensures { λ r. ⌜ r ≡ fourBytes n ⌝ }
 {
     [
@@ -28,7 +36,7 @@ fn four_bytes(n: u32) -> [u8; 4]
 fn status_shown(cause: u8, sw: u8) -> u8
     ensures { λ r. ⌜ r ≡ statusShown cause sw ⌝ }
 {
-    if cause == 16 { sw } else { 0 }
+    if cause == STATUS_CAUSE { sw } else { 0 }
 }
 
 impl Session {
@@ -38,14 +46,14 @@ impl Session {
         if self.values().out_of_range() {
             return Reply::OutOfRange;
         }
-        if room < 45 {
+        if room < STAMP {
             return Reply::ShortBuffer;
         }
         Reply::Accepted
     }
 
     // Mode, standing, cause, status word and step.
-    fn stamp_head(self) -> [u8; 6]
+    fn stamp_head(self) -> [u8; HEAD]
         ensures { λ r. ⌜ r ≡ stampHead self ⌝ }
     {
         let mode = self.opening.mode;
@@ -69,13 +77,13 @@ impl Session {
         let fascn = card.fascn;
         let date = four_bytes(opening.date);
         let expiry = four_bytes(card.expiry);
-        store::sized_6(outcomes);
-        store::sized_25(fascn);
+        store::sized_outcomes(outcomes);
+        store::sized_fascn(fascn);
         store::store(out, 0, &head);
-        store::store(out, 6, &outcomes);
-        store::store(out, 12, &date);
-        store::store(out, 16, &fascn);
-        store::store(out, 41, &expiry);
+        store::store(out, OUTCOMES_AT, &outcomes);
+        store::store(out, DATE_AT, &date);
+        store::store(out, FASCN_AT, &fascn);
+        store::store(out, EXPIRY_AT, &expiry);
     }
 
     // The stamp, written to the first 45 bytes of out.

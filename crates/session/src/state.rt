@@ -1,11 +1,10 @@
 // The session's values, by groups, and the answers of its calls.
+use crate::figures::CHECKS;
+use crate::figures::FASCN;
 use card::object::FIELDS;
 use card::object::Part;
 ghost use mathlib.Core.Path.{_≡_};
 ghost use Rattle.session.specs.Operation.{replyNumber};
-
-// How many checks there are; `checks` in the definitions.
-pub const CHECKS: usize = 6;
 
 // The command that is sent next: that of the step, or GET RESPONSE with the second status byte of the answer just taken.
 pub enum Next {
@@ -35,7 +34,7 @@ pub struct SessionProgress {
 
 // What steps 1 and 2 gave: FASC-N and expiry (0 before step 1's good end), and where the fields of each step's object lie in the step's data.
 pub struct Card {
-    pub fascn: [u8; 25],
+    pub fascn: [u8; FASCN],
     pub expiry: u32,
     pub step1: [Part; FIELDS],
     pub step2: [Part; FIELDS],

@@ -1,4 +1,6 @@
 // Bytes copied into a buffer that is lent, and the lengths of arrays that stand in a struct.
+use crate::figures::CHECKS;
+use crate::figures::FASCN;
 ghost use mathlib.Core.Path.{_≡_};
 ghost use Prim.Native.Nat.{_+_, _≤_};
 ghost use lib.ListN.{length, replicate};
@@ -23,7 +25,7 @@ pub(crate) fn store(out: &mut [u8], at: usize, s: &[u8])
 }
 
 // The bytes s as an array, zeros after them.
-pub(crate) fn array_16(s: &[u8]) -> [u8; 16]
+pub(crate) fn array_aid(s: &[u8]) -> [u8; 16]
     requires { ⌜ length (now s) ≤ 16 ⌝ }
     ensures { λ r. ⌜ r ≡ overFront (now (s .entry)) (replicate 16 0) ⌝ }
 {
@@ -32,24 +34,24 @@ pub(crate) fn array_16(s: &[u8]) -> [u8; 16]
     a
 }
 
-pub(crate) fn array_25(s: &[u8]) -> [u8; 25]
+pub(crate) fn array_fascn(s: &[u8]) -> [u8; FASCN]
     requires { ⌜ length (now s) ≡ 25 ⌝ }
     ensures { λ r. ⌜ r ≡ now (s .entry) ⌝ }
 {
-    let mut a = [0u8; 25];
+    let mut a = [0u8; FASCN];
     put(&mut a, s);
     a
 }
 
 // An array that comes out of a struct has its length: a caller learns it here.
-pub(crate) fn sized_6(a: [u8; 6])
+pub(crate) fn sized_outcomes(a: [u8; CHECKS])
     ensures { λ r. ⌜ length a ≡ 6 ⌝ }
 {}
 
-pub(crate) fn sized_16(a: [u8; 16])
+pub(crate) fn sized_aid(a: [u8; 16])
     ensures { λ r. ⌜ length a ≡ 16 ⌝ }
 {}
 
-pub(crate) fn sized_25(a: [u8; 25])
+pub(crate) fn sized_fascn(a: [u8; FASCN])
     ensures { λ r. ⌜ length a ≡ 25 ⌝ }
 {}

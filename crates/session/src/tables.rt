@@ -1,20 +1,42 @@
 // Document 01's tables by mode, step, check and verdict kind.
-use crate::state::CHECKS;
+use crate::figures::AWAITED;
+use crate::figures::CAPACITY;
+use crate::figures::CHECKS;
+use crate::figures::DATE_CAUSE;
+use crate::figures::FAILED;
+use crate::figures::GRANTED;
+use crate::figures::KINDS;
+use crate::figures::MODES;
+use crate::figures::OPEN;
+use crate::figures::OTHER_CARD;
+use crate::figures::PASSED;
+use crate::figures::REJECTED;
+use crate::figures::STATUS_CAUSE;
+use crate::figures::STEP_2_BASE;
+use crate::figures::UNNEEDED;
 use card::object::Kind;
 ghost use mathlib.Core.Path.{_≡_};
 ghost use Prim.Native.Nat.{_≤_, _<_};
-ghost use Rattle.session.specs.Tables.{checks, goodMode, goodKind, needs, checkServed, neededAt, neededOutcomes, outcomeOf, withOutcome, lowestFrom, causeOf, allPassed, standingOf, ends, kindAt, stepAfter, baseOf, stepOfTag};
+ghost use Rattle.session.specs.Tables.{checks, modeInRange, modeOpens, goodKind, needs, checkServed, neededAt, neededOutcomes, outcomeOf, withOutcome, lowestFrom, causeOf, allPassed, standingOf, ends, hasStep2, kindAt, stepAfter, baseOf, capacity, stepRead, stepOfTag};
 
-pub(crate) fn good_mode(mode: u8) -> bool
-    ensures { λ r. ⌜ r ≡ goodMode mode ⌝ }
+// The modes of a session in range.
+pub(crate) fn mode_in_range(mode: u8) -> bool
+    ensures { λ r. ⌜ r ≡ modeInRange mode ⌝ }
 {
-    (1 <= mode) & (mode <= 4)
+    (1 <= mode) & (mode <= MODES)
+}
+
+// The modes that may be opened.
+pub(crate) fn mode_opens(mode: u8) -> bool
+    ensures { λ r. ⌜ r ≡ modeOpens mode ⌝ }
+{
+    mode_in_range(mode)
 }
 
 pub(crate) fn good_kind(kind: u8) -> bool
     ensures { λ r. ⌜ r ≡ goodKind kind ⌝ }
 {
-    (1 <= kind) & (kind <= 4)
+    (1 <= kind) & (kind <= KINDS)
 }
 
 // Whether the mode needs the check: mode 1 needs 1 to 4, mode 2 needs 3 to 5, mode 3 needs 1 to 4 and 6, mode 4 all.
@@ -52,7 +74,11 @@ fn needed_at(mode: u8, i: usize) -> u8
     requires { ⌜ i < checks ⌝ }
     ensures { λ r. ⌜ r ≡ neededAt mode i ⌝ }
 {
-    if needs(mode, (i + 1) as u8) { 1 } else { 0 }
+    if needs(mode, (i + 1) as u8) {
+        AWAITED
+    } else {
+        UNNEEDED
+    }
 }
 
 pub(crate) fn needed_outcomes(mode: u8) -> [u8; CHECKS]
@@ -88,7 +114,7 @@ fn lowest_failed(o: [u8; CHECKS]) -> u8
     let mut lowest: usize = 0;
     let mut i: usize = CHECKS;
     while 0 < i {
-        if (o[i - 1] == 3) | (o[i - 1] == 4) {
+        if (o[i - 1] == FAILED) | (o[i - 1] == OTHER_CARD) {
             lowest = i;
         }
         i -= 1;
@@ -110,7 +136,7 @@ fn all_passed(mode: u8, o: [u8; CHECKS]) -> bool
     let mut ok = true;
     for i in 0..CHECKS {
         let needed = needs(mode, (i + 1) as u8);
-        ok = ok & (!needed | (o[i] == 2));
+        ok = ok & (!needed | (o[i] == PASSED));
     }
     ok
 }
@@ -120,17 +146,24 @@ pub(crate) fn standing_of(mode: u8, step: u8, cause: u8, o: [u8; CHECKS]) -> u8
     ensures { λ r. ⌜ r ≡ standingOf mode step cause o ⌝ }
 {
     if cause != 0 {
-        return 2;
+        return REJECTED;
     }
     let granted = (step == 3) & all_passed(mode, o);
-    if granted { 1 } else { 0 }
+    if granted { GRANTED } else { OPEN }
 }
 
 // A cause of 16 to 22 ends the reading.
 pub(crate) fn ends(cause: u8) -> bool
     ensures { λ r. ⌜ r ≡ ends cause ⌝ }
 {
-    (16 <= cause) & (cause <= 22)
+    (STATUS_CAUSE <= cause) & (cause <= DATE_CAUSE)
+}
+
+// Whether the mode has step 2: modes 3 and 4.
+pub(crate) fn has_step2(mode: u8) -> bool
+    ensures { λ r. ⌜ r ≡ hasStep2 mode ⌝ }
+{
+    (mode == 3) | (mode == 4)
 }
 
 // The object that a step reads.
@@ -153,18 +186,28 @@ pub(crate) fn step_after(mode: u8, step: u8) -> u8
     if step == 0 {
         return 1;
     }
-    if (step == 1) & ((mode == 3) | (mode == 4)) {
-        2
-    } else {
-        3
-    }
+    if (step == 1) & has_step2(mode) { 2 } else { 3 }
 }
 
 // Where a step's data begins in the object buffer.
 pub(crate) fn base_of(step: u8) -> usize
     ensures { λ r. ⌜ r ≡ baseOf step ⌝ }
 {
-    if step == 2 { 4096 } else { 0 }
+    if step == 2 { STEP_2_BASE } else { 0 }
+}
+
+// The most that a step may hold.
+pub(crate) fn capacity(mode: u8, step: u8) -> usize
+    ensures { λ r. ⌜ r ≡ capacity mode step ⌝ }
+{
+    CAPACITY
+}
+
+// Whether step k has ended well in a session at a step: a later one is reached, and step 2 is one of the mode's.
+pub(crate) fn step_read(mode: u8, step: u8, k: u8) -> bool
+    ensures { λ r. ⌜ r ≡ stepRead mode step k ⌝ }
+{
+    (k < step) & (!(k == 2) | has_step2(mode))
 }
 
 // The step whose object has the field with a tag; 0 for a tag that a field call may not ask for.

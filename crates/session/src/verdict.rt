@@ -1,9 +1,12 @@
 // Verdict: the host's verdict on a check.
+use crate::figures::AWAITED;
+use crate::figures::FAILED;
+use crate::figures::OTHER_CARD;
+use crate::figures::PASSED;
 use crate::state::Answered;
 use crate::state::Reply;
 use crate::state::Session;
 use crate::tables;
-use card::bytes;
 use card::fascn;
 ghost use mathlib.Core.Path.{_≡_};
 ghost use Rattle.session.specs.Tables.{verdictOutcome};
@@ -15,9 +18,13 @@ fn verdict_outcome(own: &[u8], yes: u8, fascn: &[u8]) -> u8
     ensures { λ r. ⌜ r ≡ verdictOutcome (now (own .entry)) yes (now (fascn .entry)) ⌝ }
 {
     if yes == 0 {
-        return 3;
+        return FAILED;
     }
-    if fascn::equal(fascn, own) { 2 } else { 4 }
+    if fascn::equal(fascn, own) {
+        PASSED
+    } else {
+        OTHER_CARD
+    }
 }
 
 impl Session {
@@ -46,7 +53,7 @@ impl Session {
             return Reply::NotNeeded;
         }
         let outcomes = self.outcomes;
-        if tables::outcome_of(outcomes, check) != 1 {
+        if tables::outcome_of(outcomes, check) != AWAITED {
             return Reply::AlreadyGiven;
         }
         Reply::Accepted

@@ -6,7 +6,7 @@ use Rattle.session.proofs.open.opened.Tie as tie
 
 returns : tie.Need-returns
 unfolding opened
-returns c = rw (c .before .before .before .array-16 .ensures, c .before .before .at-step .ensures, c .before .needed-outcomes .ensures, c .no-card .ensures)
+returns c = rw (c .before .before .before .array-aid .ensures, c .before .before .at-step .ensures, c .before .needed-outcomes .ensures, c .no-card .ensures)
 
 pub opened-spec : {M : Type 1} → statement M
 opened-spec =

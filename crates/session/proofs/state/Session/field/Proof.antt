@@ -1,33 +1,33 @@
 -- `session::state::Session::field` meets its contract: where no condition refuses the call, the part lies inside the buffer. Assumes nothing.
 use borrow.Author.Needs.{needs}
-use mathlib.Core.Path.{_≡_, sym, _∙_}
+use mathlib.Core.Path.{_≡_, _∙_}
+use mathlib.Core.Bool.{Bool, true, false, not, _||_}
 use native.Mathlib.Omega.{arith}
 use Prim.Native.Nat.{_+_, _≤_}
+use lib.Dec.{eqb}
 use lib.ListN.{length}
-use mathlib.Core.Bool.{true}
 use Rattle.session.specs.Tables.{objectSize}
-use Rattle.session.specs.Ranges.{inRange}
+use Rattle.session.specs.Condition.{fieldRefused}
+use Rattle.session.specs.Ranges.{inRange, outOfRange}
 use Rattle.session.proofs.RangesLaws.{values-say, part-in-range}
-use Rattle.session.proofs.CallLaws.{field-refused, field-other, field-accepted, field-read, part-in-buffer}
+use Rattle.session.proofs.CallLaws.{field-refused, field-accepted, field-read, part-in-buffer}
 use Rattle.session.proofs.CallPromiseLaws.{field-both}
 use Rattle.session.proofs.state.Session.field.Statement.{statement}
 use Rattle.session.proofs.state.Session.field.Tie as tie
 
+-- the tests of the code are the definition's
+tests : (c : tie.After-out-of-range) {b : Bool} → let a = c .before .before .before .before .before .args in
+    c .out-of-range .result || (not (eqb (length (a .object .now)) 8192) || (eqb (c .before .before .before .step-of-tag .result) 0 || not (c .before .before .step-read .result))) ≡ b
+    → outOfRange (a .self) || fieldRefused (a .self .opening .mode) (a .self .progress .step) (length (a .object .now)) (a .tag) ≡ b
+unfolding objectSize
+tests c e = rw (← values-say _ (c .before .values .ensures) (c .out-of-range .ensures), ← c .before .before .before .step-of-tag .ensures, ← c .before .before .step-read .ensures) e
+
 returns : tie.Need-returns
-returns c =
-    let a = c .before .before .before .before .before .before .args in
-    field-both _ _ _ _ (field-refused (a .self) (a .object .now) (a .tag) (rw (values-say _ (c .before .before .before .values .ensures) (c .before .before .out-of-range .ensures)) at (c .before .if1 .taken)))
+returns c = let a = c .before .before .before .before .before .before .before .args in field-both _ _ _ _ (field-refused (a .self) (a .object .now) (a .tag) (tests (c .before .before) (c .before .if1 .taken)))
 
-returns-2 : tie.Need-returns-2
-returns-2 c =
-    let a = c .before .before .before .before .before .before .before .args in
-    field-both _ _ _ _ (field-other (a .self) (a .object .now) (a .tag) (sym (c .before .before .before .before .before .step-of-tag .ensures) ∙ c .before .if2 .taken))
-
--- past both tests: the session is in range, the buffer has its size
+-- past the tests: the session is in range, the buffer has its size
 accepted : (c : tie.After-base-of) → let a = c .before .before .before .before .before .before .before .before .args in (inRange (a .self) ≡ true) × (length (a .object .now) ≡ objectSize)
-accepted c =
-    let a = c .before .before .before .before .before .before .before .before .args in
-    field-accepted (a .self) (length (a .object .now)) (rw (values-say _ (c .before .before .before .before .before .values .ensures) (c .before .before .before .before .out-of-range .ensures)) at (c .before .before .before .if1 .left))
+accepted c = let a = c .before .before .before .before .before .before .before .before .args in field-accepted (a .self) (length (a .object .now)) (a .tag) (tests (c .before .before .before) (c .before .before .if1 .left))
 
 -- and the part ends inside it
 ends : (c : tie.After-base-of) → let p = c .before .part-for .result in c .base-of .result + (p .start + p .len) ≤ length (c .before .before .before .before .before .before .before .before .args .object .now)
@@ -44,19 +44,17 @@ add-end c = omega (arith, ends (c .before .before), c .before .before .before .b
 part-result-end : tie.Need-part-result-end
 part-result-end c = omega (arith, ends (c .before .before))
 
-returns-3 : tie.Need-returns-3
-returns-3 c =
+returns-2 : tie.Need-returns-2
+returns-2 c =
     let at = c .before .before .before in
     let a = c .before .before .before .before .before .before .before .before .before .before .before .args in
-    let step = c .before .before .before .before .before .before .before .before .before .step-of-tag in
     field-both _ _ _ _
     (part-in-buffer (a .object .now) (at .base-of .result) (at .before .part-for .result)
-    ∙ rw (at .base-of .ensures, at .before .part-for .ensures, step .ensures)
-    (field-read (a .self) (a .object .now) (a .tag) (accepted at .0) (accepted at .1) (λ e. at .before .before .if2 .left (step .ensures ∙ e))))
+    ∙ rw (at .base-of .ensures, at .before .part-for .ensures, c .before .before .before .before .before .before .before .before .before .step-of-tag .ensures) (field-read (a .self) (a .object .now) (a .tag) (tests (at .before .before .before) (c .before .before .before .before .before .if1 .left))))
 
 pub field-spec : {M : Type 1} → statement M
 field-spec =
     tie.close
     (tie.spec
-    (λ c κs. search needs) (λ c κs. search needs) (λ c κs. search needs) (λ c. search needs) returns (λ c. search needs) returns-2 (λ c κs. search needs)
-    (λ c κs. search needs) (λ c. search needs) add-start (λ c. search needs) add-end (λ c. search needs) (λ c. search needs) part-result-end returns-3)
+    (λ c κs. search needs) (λ c κs. search needs) (λ c κs. search needs) (λ c κs. search needs) (λ c. search needs) returns (λ c κs. search needs)
+    (λ c κs. search needs) (λ c. search needs) add-start (λ c. search needs) add-end (λ c. search needs) (λ c. search needs) part-result-end returns-2)

@@ -49,8 +49,8 @@ returns-2 : tie.Need-returns-2
 returns-2 c =
     c .stopped2 .ensures ∙ sym (step1-date _ _ _ (c .before .before .before .before .before .before .before .before .before .before .before .before .before .pre .0) (c .before .before .before .before .before .before .before .before .before .before .before .before .before .pre .1) (number-is (c .before .before .before .before .before .before)) (c .before .before .before .before .before .if1 .left) (date-number-is (c .before .before)) (c .before .if2 .taken))
 
-array-25-requires : tie.Need-array-25-requires
-array-25-requires c κs =
+array-fascn-requires : tie.Need-array-fascn-requires
+array-fascn-requires c κs =
     let e : unpackOf (now (c .before .before .before .before .before .before .before .before .before .before .before .before .value .result)) .0 ≡ 0 = rw (← c .before .before .before .before .before .before .before .before .before .before .before .unpack .ensures) (sym (c .before .before .before .before .before .before .before .before .before .before .number .ensures) ∙ c .before .before .before .before .before .before .before .before .before .if1 .left) in
     well-formed _ e .long
 
@@ -62,7 +62,7 @@ returns-3 c =
     let p = at .before .before .before .before .before .before .before .before .before .before .before .before .pre in
     let good = step1-good (a .self) (a .joined .now) (a .cancelled .now) (p .0) (p .1) (number-is (at .before .before .before .before .before)) (at .before .before .before .before .if1 .left) (date-number-is (at .before)) (at .if2 .left) in
     let outcomes = c .before .before .before .before .judged-outcomes .ensures in
-    rw (good, p .0, c .before .at-step .ensures, c .before .before .step-after .ensures, outcomes, key-is (c .before .before .before .before .before .before), c .before .before .before .array-25 .ensures, bytes-is (at .before .before .before .before .before .before .before), expiry-is (c .before .before .before .before .before .before .before .before), p .1)
+    rw (good, p .0, c .before .at-step .ensures, c .before .before .step-after .ensures, outcomes, key-is (c .before .before .before .before .before .before), c .before .before .before .array-fascn .ensures, bytes-is (at .before .before .before .before .before .before .before), expiry-is (c .before .before .before .before .before .before .before .before), p .1)
 
 pub judge-step1-spec : {M : Type 1} → statement M
 judge-step1-spec =
@@ -70,4 +70,4 @@ judge-step1-spec =
     (tie.spec
     (λ c κs. search needs) value-requires (λ c κs. search needs) (λ c κs. search needs) (λ c κs. search needs) returns value-requires-2
     (λ c κs. search needs) (λ c κs. search needs) (λ c κs. search needs) returns-2 (λ c κs. search needs) (λ c κs. search needs)
-    (λ c κs. search needs) array-25-requires (λ c κs. search needs) (λ c κs. search needs) returns-3)
+    (λ c κs. search needs) array-fascn-requires (λ c κs. search needs) (λ c κs. search needs) returns-3)

@@ -7,30 +7,39 @@ use borrow.Author.Needs.{needs}
 use lib.ListN.{length}
 use denote.Ref.{now}
 use Rattle.card.specs.Command.{statusOf}
+use Rattle.session.specs.Tables.{objectSize}
 use Rattle.session.specs.Operation.{causeIn, joinedIn, answerTakenSession, answerTakenBuffer}
 use Rattle.session.proofs.CallLaws.{none}
-use Rattle.session.proofs.BufferLaws.{base-most}
+use Rattle.session.proofs.FigureLaws.{base-fits, object-small}
 use Rattle.session.proofs.RuleLaws.{rule-fits}
 use Rattle.session.proofs.state.Session.take_answer.Statement.{statement}
 use Rattle.session.proofs.state.Session.take_answer.Tie as tie
 
-end-fits : (c : tie.After-base-of) → let a = c .before .before .before .before .before .before .before .before .before .args in c .base-of .result + a .self .progress .filled + length (a .bytes .now) ≤ 8192
-end-fits c = omega (arith, base-most (c .before .before .before .before .before .before .before .before .before .args .self .progress .step), c .base-of .ensures, rule-fits _ _ _ _ _ (sym (c .before .before .before .cause-by .ensures) ∙ c .before .before .if1 .taken))
+end-fits : (c : tie.After-base-of) → let a = c .before .before .before .before .before .before .before .before .before .args in c .base-of .result + a .self .progress .filled + length (a .bytes .now) ≤ objectSize
+end-fits c =
+    let s = c .before .before .before .before .before .before .before .before .before .args .self in
+    omega (arith, base-fits (s .opening .mode) (s .progress .step), c .base-of .ensures, rule-fits _ _ _ _ _ (sym (c .before .before .before .cause-by .ensures) ∙ c .before .before .if1 .taken))
 
 cause-is : (c : tie.After-cause-by) → let a = c .before .before .before .before .before .before .args in c .cause-by .result ≡ causeIn (a .self) (statusOf (a .status .now)) (length (a .bytes .now))
 cause-is c = rw (← c .before .status-of .ensures) (c .cause-by .ensures)
 
+cause-by-requires : tie.Need-cause-by-requires
+cause-by-requires c κs = let s = c .before .before .before .before .before .args .self in omega (arith, base-fits (s .opening .mode) (s .progress .step), object-small, c .before .before .before .before .before .pre)
+
 add-at : tie.Need-add-at
-add-at c = omega (arith, end-fits (c .before))
+add-at c = omega (arith, object-small, end-fits (c .before))
 
 store-requires : tie.Need-store-requires
 store-requires c κs = omega (arith, end-fits (c .before .before), c .before .before .before .before .before .before .before .before .before .before .before .pre .0)
 
 add-end : tie.Need-add-end
-add-end c = omega (arith, end-fits (c .before .before .before .before .before))
+add-end c = omega (arith, object-small, end-fits (c .before .before .before .before .before))
 
 part-appended-end : tie.Need-part-appended-end
 part-appended-end c = omega (arith, c .before .before .before .store .kept .0, end-fits (c .before .before .before .before .before .before), c .before .before .before .before .before .before .before .before .before .before .before .before .before .before .before .pre .0)
+
+appended-requires : tie.Need-appended-requires
+appended-requires c κs = let s = c .before .before .before .before .before .before .before .before .before .before .before .before .before .before .before .before .args .self in omega (arith, base-fits (s .opening .mode) (s .progress .step), object-small, c .before .before .before .before .before .before .before .before .before .before .before .before .before .before .before .before .pre)
 
 returns : tie.Need-returns
 unfolding answerTakenSession answerTakenBuffer joinedIn
@@ -57,6 +66,6 @@ pub take-answer-spec : {M : Type 1} → statement M
 take-answer-spec =
     tie.close
     (tie.spec
-    (λ c κs. search needs) (λ c κs. search needs) (λ c κs. search needs) add-at store-requires add-end (λ c. search needs) (λ c. search needs)
-    part-appended-end (λ c κs. search needs) (λ c. search needs) returns (λ c. search needs) (λ c. search needs) (λ c κs. search needs) returns-2
+    (λ c κs. search needs) cause-by-requires (λ c κs. search needs) add-at store-requires add-end (λ c. search needs) (λ c. search needs)
+    part-appended-end appended-requires (λ c. search needs) returns (λ c. search needs) (λ c. search needs) (λ c κs. search needs) returns-2
     (λ c κs. search needs) returns-3)

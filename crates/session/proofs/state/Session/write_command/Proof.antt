@@ -10,8 +10,8 @@ use Rattle.session.proofs.SendLaws.{select-next, get-data-next, get-res
 use Rattle.session.proofs.state.Session.write_command.Statement.{statement}
 use Rattle.session.proofs.state.Session.write_command.Tie as tie
 
-aid-inside : (c : tie.After-sized-16) → let s = c .before .before .before .before .before .before .before .before .before .args .self in s .opening .«aid_len» ≤ length (s .opening .aid)
-aid-inside c = omega (arith, aid-in-range (c .before .before .before .before .before .before .before .before .before .args .self) (c .before .before .before .before .before .before .before .before .before .pre) .1, c .sized-16 .ensures)
+aid-inside : (c : tie.After-sized-aid) → let s = c .before .before .before .before .before .before .before .before .before .args .self in s .opening .«aid_len» ≤ length (s .opening .aid)
+aid-inside c = omega (arith, aid-in-range (c .before .before .before .before .before .before .before .before .before .args .self) (c .before .before .before .before .before .before .before .before .before .pre) .1, c .sized-aid .ensures)
 
 array-share-prefix-aid : tie.Need-array-share-prefix-aid
 array-share-prefix-aid c = aid-inside c
@@ -22,7 +22,7 @@ slice-aggregate-select c = sym (length-take-le _ _ (aid-inside (c .before)))
 returns : tie.Need-returns
 returns c =
     let at = c .before .before .before .before .before in
-    c .before .before .select .ensures ∙ select-next _ _ (at .before .before .before .before .before .before .before .before .before .pre) (at .sized-16 .ensures) (at .before .before .before .before .enum-told .given .1) (at .before .before .if1 .taken)
+    c .before .before .select .ensures ∙ select-next _ _ (at .before .before .before .before .before .before .before .before .before .pre) (at .sized-aid .ensures) (at .before .before .before .before .enum-told .given .1) (at .before .before .if1 .taken)
 
 returns-2 : tie.Need-returns-2
 returns-2 c =

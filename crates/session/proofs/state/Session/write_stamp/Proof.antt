@@ -3,7 +3,7 @@ use borrow.Author.Needs.{needs}
 use mathlib.Core.Path.{_≡_, refl, ap, _∙_}
 use lib.ListN.{length}
 use Rattle.session.proofs.StoreLaws.{stored-five}
-use Rattle.session.specs.Tables.{layout}
+use Rattle.session.specs.Tables.{layout, stampSize}
 use Rattle.session.specs.Operation.{stampHead, stampIn}
 use Rattle.session.specs.declared.state.Session.{Session}
 use Rattle.session.proofs.state.Session.write_stamp.Statement.{statement}
@@ -29,10 +29,11 @@ returns c =
     let a = first .before .before .args in
     rw (← head .ensures, ← date .ensures, ← expiry .ensures)
     (stored-five (head .result) (a .self .outcomes) (date .result) (a .self .card .fascn) (expiry .result) (a .out .now)
-    (ap length (head .ensures) ∙ head-length (a .self)) (sizes .before .sized-6 .ensures) (ap length (date .ensures)) (sizes .sized-25 .ensures)
+    (ap length (head .ensures) ∙ head-length (a .self)) (sizes .before .sized-outcomes .ensures) (ap length (date .ensures)) (sizes .sized-fascn .ensures)
     (at1 .store .ensures) (at2 .store2 .ensures) (at3 .store3 .ensures) (at4 .store4 .ensures) (c .before .before .store5 .ensures))
 
 pub write-stamp-spec : {M : Type 1} → statement M
+unfolding stampSize
 write-stamp-spec =
     tie.close
     (tie.spec

@@ -1,0 +1,14 @@
+-- `session::store::array_fascn` meets its contract: the bytes are as many as the array has. Assumes nothing.
+use borrow.Author.Needs.{needs}
+use native.Mathlib.Omega.{arith}
+use mathlib.Core.Path.{_∙_}
+use lib.ListN.{replicate}
+use Rattle.session.proofs.StoreLaws.{front-all}
+use Rattle.session.proofs.store.array_fascn.Statement.{statement}
+use Rattle.session.proofs.store.array_fascn.Tie as tie
+
+returns : tie.Need-returns
+returns c = c .before .put .ensures ∙ front-all (c .before .before .before .before .args .s .now) (replicate 25 0) (omega arith)
+
+pub array-fascn-spec : {M : Type 1} → statement M
+array-fascn-spec = tie.close (tie.spec (λ c. search needs) (λ c κs. search needs) returns)
