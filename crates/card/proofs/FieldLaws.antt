@@ -11,10 +11,13 @@ use lib.Dec.{eqb}
 use lib.ListN.{length, getD, set, take, drop, replicate, length-set, take-append-drop}
 use lib.Seq.{take-suc-set, drop-set-lt, drop-cons, getD-take, drop-drop, drop-length, length-take-le, append-snoc}
 use Rattle.card.specs.Tlv.{headerOf}
-use Rattle.card.specs.Object.{mostFields, empty, absent, found, fieldFrom, rowField, fieldsFrom, fieldsAnswer, partIn}
+use Rattle.card.specs.Object.{mostFields, rowsOf, layoutOf, empty, absent, found, fieldFrom, rowField, fieldsFrom, fieldsAnswer, partIn}
 use Rattle.card.specs.declared.tlv.Header.{Header}
 use Rattle.card.specs.declared.tlv.Header.the-variants.{Whole, Malformed}
+use Rattle.card.specs.declared.object.Kind.{Kind}
+use Rattle.card.specs.declared.object.Kind.the-variants.{Signed, Unsigned, Fingers}
 use Rattle.card.specs.declared.object.Row.{Row}
+use Rattle.card.specs.declared.object.Layout.{Layout}
 use Rattle.card.specs.declared.object.Part.{Part}
 use Rattle.card.specs.declared.object.Field.{Field}
 
@@ -63,6 +66,13 @@ more : (v : List ℕ) (base : ℕ) (r : Row) (rs : List Row) (at : ℕ) (ok : Bo
     ≡ joined (ok && rowField v base r at .ok) (ps ++ (rowField v base r at .part ∷ [])) (fieldsFrom v base rs (rowField v base r at .next))
 unfolding fieldsFrom
 more v base r rs at ok ps = rw (and-assoc, append-snoc)
+
+-- the layout of an object: its first n rows are the object's, n of them, and no more than an object has at most
+pub laid-out : (k : Kind) {l : Layout} → l ≡ layoutOf k → (take (l .n) (l .rows) ≡ rowsOf k) × (length (rowsOf k) ≡ l .n) × (l .n ≤ mostFields)
+unfolding layoutOf rowsOf
+laid-out Signed e = rw e (refl, refl, omega arith)
+laid-out Unsigned e = rw e (refl, refl, omega arith)
+laid-out Fingers e = rw e (refl, refl, omega arith)
 
 -- row i of a layout, which is the first n of some rows
 pub row-at : (rows : List Row) (n i : ℕ) (d : Row) {all : List Row} → take n rows ≡ all → length all ≡ n → i < n → drop i (take n rows) ≡ getD rows i d ∷ drop (i + 1) (take n rows)

@@ -13,6 +13,7 @@ use Rattle.card.specs.declared.tlv.Header.the-variants.{Whole, Malformed
 use Rattle.card.specs.declared.object.Kind.{Kind}
 use Rattle.card.specs.declared.object.Kind.the-variants.{Signed, Unsigned, Fingers}
 use Rattle.card.specs.declared.object.Row.{Row}
+use Rattle.card.specs.declared.object.Layout.{Layout}
 use Rattle.card.specs.declared.object.Part.{Part}
 use Rattle.card.specs.declared.object.Field.{Field}
 use Rattle.card.specs.declared.object.Object.{Object}
@@ -48,6 +49,19 @@ unfoldable pub rowsOf : Kind → List Row
 rowsOf Signed = field 0x30 25 25 ∷ field 0x34 16 16 ∷ field 0x35 8 8 ∷ field 0x3E 1 2816 ∷ field 0xFE 0 0 ∷ []
 rowsOf Unsigned = field 0x30 25 25 ∷ optional 0x34 16 16 ∷ field 0x35 8 8 ∷ field 0xFE 0 0 ∷ []
 rowsOf Fingers = field 0xBC 1 862 ∷ optional 0xFE 0 0 ∷ []
+
+-- The most fields that an object has. A layout has as many rows, and an answer as many parts.
+abbrev pub mostFields : ℕ
+mostFields = 5
+
+-- The rows of an object and how many they are, filled up with rows that are none of its.
+abbrev pub noRow : Row
+noRow = field 0 0 0
+
+unfoldable pub layoutOf : Kind → Layout
+layoutOf k =
+    let rows = rowsOf k in
+    record { n = length rows; rows = rows ++ replicate (mostFields - length rows) noRow }
 
 -- The tag by which GET DATA asks for the object.
 unfoldable pub objectTag : Kind → List ℕ
@@ -92,11 +106,7 @@ fieldsFrom v base (r ∷ rs) at =
 
 -- ---- the object
 
--- An answer has as many parts as an object has fields at most; those past the last field are empty.
-abbrev pub mostFields : ℕ
-mostFields = 5
-
--- Cause 0 and the parts; or cause 20, and all parts empty.
+-- Cause 0 and the parts, those past the last field empty; or cause 20, and all parts empty.
 unfoldable pub fieldsAnswer : Bool × List Part → ℕ × List Part
 fieldsAnswer f = cond (f .0) (0, f .1 ++ replicate (mostFields - length (f .1)) empty) (20, replicate mostFields empty)
 

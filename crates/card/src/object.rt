@@ -4,8 +4,8 @@ use crate::tlv;
 use crate::tlv::Header;
 ghost use mathlib.Core.Path.{_≡_};
 ghost use Prim.Native.Nat.{_+_, _≤_, _<_, _^_};
-ghost use lib.ListN.{length, take};
-ghost use Rattle.card.specs.Object.{mostFields, rowsOf, rowField, fieldsFrom, fieldsAnswer, objectNumber, objectAnswer, objectOf, partIn};
+ghost use lib.ListN.{length};
+ghost use Rattle.card.specs.Object.{rowsOf, layoutOf, rowField, fieldsFrom, fieldsAnswer, objectNumber, objectAnswer, objectOf, partIn};
 
 // The objects that a reading asks for: 5FC102, 5FC104 and DFC103.
 pub enum Kind {
@@ -69,11 +69,9 @@ pub struct Object {
     pub answer: ObjectAnswer,
 }
 
-// The rows of an object, in document 01's order.
+// The rows of an object, in document 01's order, filled up with NONE.
 fn layout_of(kind: Kind) -> Layout
-    ensures is { λ r. ⌜ take (r .n) (r .rows) ≡ rowsOf kind ⌝ }
-    ensures most { λ r. ⌜ r .n ≤ mostFields ⌝ }
-    ensures count { λ r. ⌜ length (rowsOf kind) ≡ r .n ⌝ }
+    ensures { λ r. ⌜ r ≡ layoutOf kind ⌝ }
 {
     match kind {
         Kind::Signed => Layout {

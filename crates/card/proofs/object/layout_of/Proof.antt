@@ -1,20 +1,20 @@
--- `card::object::layout_of` meets its contract: the rows are those of the definition. Assumes nothing.
+-- `card::object::layout_of` meets its contract: the layout is that of the definition. Assumes nothing.
 use borrow.Author.Needs.{needs}
-use Rattle.card.specs.Object.{rowsOf}
+use Rattle.card.specs.Object.{rowsOf, layoutOf}
 use Rattle.card.proofs.object.layout_of.Statement.{statement}
 use Rattle.card.proofs.object.layout_of.Tie as tie
 
 returns : tie.Need-returns
-unfolding rowsOf
-returns c = (rw (c .enum-told .given .1), (search needs, rw (c .enum-told .given .1)))
+unfolding layoutOf rowsOf
+returns c = rw (c .enum-told .given .1)
 
 returns-2 : tie.Need-returns-2
-unfolding rowsOf
-returns-2 c = (rw (c .enum-told2 .given .1), (search needs, rw (c .enum-told2 .given .1)))
+unfolding layoutOf rowsOf
+returns-2 c = rw (c .enum-told2 .given .1)
 
 returns-3 : tie.Need-returns-3
-unfolding rowsOf
-returns-3 c = (rw (c .enum-told3 .given .1), (search needs, rw (c .enum-told3 .given .1)))
+unfolding layoutOf rowsOf
+returns-3 c = rw (c .enum-told3 .given .1)
 
 pub layout-of-spec : {M : Type 1} → statement M
 layout-of-spec =
