@@ -11,7 +11,7 @@ use lib.ListN.{length, length-append}
 use Rattle.card.specs.Lists.{overFront}
 use Rattle.card.specs.Refusal.{refusalOf}
 use Rattle.card.specs.Object.{objectTag}
-use Rattle.card.specs.Command.{selectBytes, getDataBytes, getResponseBytes, commandWritten, aidRefused, tooShort, selectOf, getDataOf, getResponseOf}
+use Rattle.card.specs.Command.{selectBytes, getDataBytes, getResponseBytes, commandWritten, aidLeast, aidMost, aidRefused, tooShort, selectOf, getDataOf, getResponseOf}
 use Rattle.card.specs.declared.object.Kind.{Kind}
 use Rattle.card.specs.declared.object.Kind.the-variants.{Signed, Unsigned, Fingers}
 
@@ -41,9 +41,9 @@ get-response-length x = refl
 
 -- ---- the answer
 
--- an AID that is not refused has at most 16 bytes
-pub aid-most : (aid : List ℕ) → aidRefused aid ≡ false → length aid ≤ 16
-aid-most aid e = leb-true (length aid) 16 (and-eq-true-iff (leb 5 (length aid)) (leb (length aid) 16) .0 (not-false _ e) .1)
+-- an AID that is not refused has no more than the most bytes
+pub aid-most : (aid : List ℕ) → aidRefused aid ≡ false → length aid ≤ aidMost
+aid-most aid e = leb-true (length aid) aidMost (and-eq-true-iff (leb aidLeast (length aid)) (leb (length aid) aidMost) .0 (not-false _ e) .1)
 
 -- a command that fits stands in front of the buffer
 pub command-fits : (c out : List ℕ) {k : ℕ} {m : List ℕ} → length c ≤ length out → k ≡ length c → m ≡ overFront c out

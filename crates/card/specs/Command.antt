@@ -34,10 +34,20 @@ getResponseBytes second = (0x00 ∷ 0xC0 ∷ 0x00 ∷ 0x00 ∷ []) ++ (second �
 unfoldable pub commandWritten : ℕ → List ℕ → List ℕ → (ℕ × ℕ) × List ℕ
 commandWritten n c out = cond (eqb n 0) ((0, length c), overFront c out) ((n, 0), out)
 
--- Open's condition 3, AID not 5–16 bytes, and command's 6, buffer shorter than the command.
-abbrev pub aidRefused : List ℕ → Bool
-aidRefused aid = not (leb 5 (length aid) && leb (length aid) 16)
+-- Open's condition 3, "AID not 5–16 bytes": the least and the most that an AID has, and whether so many are an AID's.
+abbrev pub aidLeast : ℕ
+aidLeast = 5
 
+abbrev pub aidMost : ℕ
+aidMost = 16
+
+abbrev pub goodAid : ℕ → Bool
+goodAid n = leb aidLeast n && leb n aidMost
+
+abbrev pub aidRefused : List ℕ → Bool
+aidRefused aid = not (goodAid (length aid))
+
+-- Command's condition 6, "buffer shorter than the command".
 abbrev pub tooShort : List ℕ → List ℕ → Bool
 tooShort out c = ltb (length out) (length c)
 

@@ -6,7 +6,12 @@ ghost use Prim.Native.Nat.{_+_, _≤_};
 ghost use lib.ListN.{length};
 ghost use Rattle.card.specs.Lists.{overPlaces};
 ghost use Rattle.card.specs.Object.{objectTag};
-ghost use Rattle.card.specs.Command.{commandNumber, commandAnswer, selectOf, getDataOf, getResponseOf, statusOf};
+ghost use Rattle.card.specs.Command.{goodAid, commandNumber, commandAnswer, selectOf, getDataOf, getResponseOf, statusOf};
+
+// The least and the most bytes of an AID; `aidLeast` and `aidMost` in the definitions.
+pub const AID_LEAST: usize = 5;
+
+pub const AID_MOST: usize = 16;
 
 // What a command answers: how many bytes it wrote, or why it wrote none. `commandAnswer` gives document 01's number and the count of each.
 pub enum CommandAnswer {
@@ -38,12 +43,19 @@ fn put(out: &mut [u8], at: usize, s: &[u8])
     bytes::copy_run(out, at, s, 0, s.len());
 }
 
+// Whether an AID may have n bytes.
+pub fn good_aid(n: usize) -> bool
+    ensures { λ r. ⌜ r ≡ goodAid n ⌝ }
+{
+    (AID_LEAST <= n) & (n <= AID_MOST)
+}
+
 // SELECT: 00 A4 04 00, AID length, AID, 00.
 pub fn select(aid: &[u8], out: &mut [u8]) -> CommandAnswer
     ensures { λ r. ⌜ (commandAnswer r, now (out .exit)) ≡ selectOf (now (aid .entry)) (now (out .entry)) ⌝ }
 {
     let n = aid.len();
-    if !((5 <= n) & (n <= 16)) {
+    if !good_aid(n) {
         return CommandAnswer::WrongAid;
     }
     let total = n + 6;

@@ -1,5 +1,6 @@
 -- `card::command::select` meets its contract: each store lengthens the front. Assumes nothing.
-use mathlib.Core.Path.{refl, sym, _∙_}
+use mathlib.Core.Path.{refl, sym, ap, _∙_}
+use mathlib.Core.Bool.{not}
 use native.Mathlib.Omega.{arith}
 use borrow.Author.Needs.{needs}
 use Rattle.card.specs.Command.{selectBytes, selectOf, commandWritten}
@@ -10,14 +11,18 @@ use Rattle.card.proofs.command.select.Tie as tie
 
 returns : tie.Need-returns
 unfolding selectOf commandWritten
-returns c = rw (c .if1 .taken)
+returns c = rw (ap not (sym (c .before .good-aid .ensures)) ∙ c .if1 .taken)
 
 returns-2 : tie.Need-returns-2
 unfolding selectOf
-returns-2 c = rw (c .before .if1 .left) (command-short (selectBytes (c .before .before .before .before .args .aid .now)) _ (rw select-length (c .if2 .taken)))
+returns-2 c =
+    let accepted = ap not (sym (c .before .before .good-aid .ensures)) ∙ c .before .if1 .left in
+    rw accepted (command-short (selectBytes (c .before .before .before .before .before .args .aid .now)) _ (rw select-length (c .if2 .taken)))
 
-cast-t13 : tie.Need-cast-t13
-cast-t13 c = omega (arith, aid-most (c .before .before .before .before .args .aid .now) (c .before .if1 .left))
+cast-t11 : tie.Need-cast-t11
+cast-t11 c =
+    let accepted = ap not (sym (c .before .before .good-aid .ensures)) ∙ c .before .if1 .left in
+    omega (arith, aid-most (c .before .before .before .before .before .args .aid .now) accepted)
 
 returns-3 : tie.Need-returns-3
 unfolding selectBytes selectOf
@@ -26,11 +31,12 @@ returns-3 c =
     let at2 = at3 .before .before .before .before in
     let at1 = at2 .before .before .before .before .before in
     let test = at1 .before .before .before in
-    let a = test .before .before .before .before .args in
+    let a = test .before .before .before .before .before .args in
+    let accepted = ap not (sym (test .before .before .good-aid .ensures)) ∙ test .before .if1 .left in
     let first = at1 .put .ensures ∙ stored-first _ _ in
     let second = at2 .put2 .ensures ∙ stored-next _ _ _ first refl in
     let third = at3 .put3 .ensures ∙ stored-next _ _ _ second refl in
-    rw (test .before .if1 .left)
+    rw accepted
     (command-fits (selectBytes (a .aid .now)) (a .out .now) (rw select-length (test .if2 .left)) (sym (select-length (a .aid .now)))
     (c .before .before .put4 .ensures ∙ stored-next _ _ _ third (omega arith)))
 
@@ -38,5 +44,5 @@ pub select-spec : {M : Type 1} → statement M
 select-spec =
     tie.close
     (tie.spec
-    returns (λ c. search needs) returns-2 cast-t13 (λ c. search needs) (λ c κs. search needs) (λ c. search needs) (λ c κs. search needs) (λ c κs. search needs)
+    (λ c κs. search needs) returns (λ c. search needs) returns-2 cast-t11 (λ c. search needs) (λ c κs. search needs) (λ c. search needs) (λ c κs. search needs) (λ c κs. search needs)
     (λ c. search needs) (λ c. search needs) (λ c κs. search needs) (λ c. search needs) returns-3)
