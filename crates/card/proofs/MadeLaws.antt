@@ -10,7 +10,7 @@ use lib.Dec.{eqb, leb, ltb}
 use lib.ListN.{length, getD, take, drop, replicate, length-append, length-drop, length-map, take-append-drop, drop-of-length-le, List·getD-append, List·getD-eq-default}
 use lib.Seq.{take-length, take-all, drop-at, drop-drop, getD-drop}
 use Rattle.card.specs.Tlv.{tagSize, headerOf, onlyFrom, onlyOf, tagBytes, isTag, lengthBytes, fitsForm, encoded}
-use Rattle.card.specs.Object.{rowTag, least, greatest, rowsOf, mostFields, part, empty, absent, fieldFrom, rowField, fieldsFrom, fieldsAnswer, objectFrom, objectOf, partIn, bytesAt, fieldValue, Made, no-rows, left-out, given, valueIn}
+use Rattle.card.specs.Object.{dataObjectTag, rowTag, least, greatest, rowsOf, mostFields, part, empty, absent, fieldFrom, rowField, fieldsFrom, fieldsAnswer, objectFrom, objectOf, partIn, bytesAt, fieldValue, Made, no-rows, left-out, given, valueIn}
 use Rattle.card.specs.declared.object.Kind.{Kind}
 use Rattle.card.specs.declared.object.Kind.the-variants.{Signed, Unsigned, Fingers}
 use Rattle.card.specs.declared.object.Row.{Row}
@@ -113,32 +113,32 @@ map-empty s (suc n) = ap (λ (l : List (List ℕ)). [] ∷ l) (map-empty s n)
 -- an object that holds what is made for its rows
 module _ (k : Kind) (form : ℕ) {v : List ℕ} {values : List (List ℕ)} (m : Made (rowsOf k) v values) (h : fitsForm form (length v) ≡ true) where
   -- v is its value
-  held : drop (1 + form) (encoded form 0x53 v) ≡ v
+  held : drop (1 + form) (encoded form dataObjectTag v) ≡ v
   unfolding encoded tagBytes
   held = rw (← drop-drop form 1) (drop-at (lengthBytes form (length v)) v form (form-read form (length v) [] h .2))
 
   -- the walk over its fields, and the answer
-  fields : let f = fieldsFrom v (1 + form) (rowsOf k) 0 in (f .0 ≡ true) × (map (bytesAt (encoded form 0x53 v)) (f .1) ≡ values)
-  fields = fields-made (encoded form 0x53 v) v (1 + form) held 0 (rows-apart k) m (omega arith) refl
+  fields : let f = fieldsFrom v (1 + form) (rowsOf k) 0 in (f .0 ≡ true) × (map (bytesAt (encoded form dataObjectTag v)) (f .1) ≡ values)
+  fields = fields-made (encoded form dataObjectTag v) v (1 + form) held 0 (rows-apart k) m (omega arith) refl
 
-  answer : objectOf k (encoded form 0x53 v) ≡ fieldsAnswer (true, fieldsFrom v (1 + form) (rowsOf k) 0 .1)
+  answer : objectOf k (encoded form dataObjectTag v) ≡ fieldsAnswer (true, fieldsFrom v (1 + form) (rowsOf k) 0 .1)
   unfolding objectOf objectFrom onlyOf onlyFrom isTag tagSize tagBytes fieldsAnswer
-  answer = rw (rw append-nil at (read-back form 0x53 v [] refl h), eq-eqb _ _ (sym (encoded-length form 0x53 v h)), held, take-length, fields .0)
+  answer = rw (rw append-nil at (read-back form dataObjectTag v [] refl h), eq-eqb _ _ (sym (encoded-length form dataObjectTag v h)), held, take-length, fields .0)
 
   -- it is accepted
-  pub made-accepted : objectOf k (encoded form 0x53 v) .0 ≡ 0
+  pub made-accepted : objectOf k (encoded form dataObjectTag v) .0 ≡ 0
   unfolding fieldsAnswer
   made-accepted = rw answer
 
   -- its parts hold the values, in the order of the rows, and nothing past the last row
-  pub made-values : map (bytesAt (encoded form 0x53 v)) (objectOf k (encoded form 0x53 v) .1) ≡ values ++ replicate (mostFields - length values) []
+  pub made-values : map (bytesAt (encoded form dataObjectTag v)) (objectOf k (encoded form dataObjectTag v) .1) ≡ values ++ replicate (mostFields - length values) []
   unfolding fieldsAnswer
   made-values =
-      let n = sym (length-map (fieldsFrom v (1 + form) (rowsOf k) 0 .1) (bytesAt (encoded form 0x53 v))) ∙ ap length (fields .1) in
+      let n = sym (length-map (fieldsFrom v (1 + form) (rowsOf k) 0 .1) (bytesAt (encoded form dataObjectTag v))) ∙ ap length (fields .1) in
       rw (answer, map-append, n, fields .1, map-empty)
 
   -- and its fields hold them by their tags
-  pub made-value : (tag : ℕ) → fieldValue k tag (encoded form 0x53 v) ≡ valueIn (rowsOf k) values tag
+  pub made-value : (tag : ℕ) → fieldValue k tag (encoded form dataObjectTag v) ≡ valueIn (rowsOf k) values tag
   unfolding fieldValue
   made-value tag = rw (value-at, made-values) (value-front (replicate (mostFields - length values) []) tag m)
 
@@ -191,10 +191,10 @@ module _ (v : List ℕ) (base : ℕ) (bytes : (i : ℕ) → getD v i 0 < 256) wh
 
 -- an object that is accepted is the encoding of what is made for its rows; so, by `made-value`, its fields are the values
 pub object-made : (k : Kind) (s : List ℕ) → ((i : ℕ) → getD s i 0 < 256) → objectOf k s .0 ≡ 0
-    → (form : ℕ) × (v : List ℕ) × (values : List (List ℕ)) × Made (rowsOf k) v values × (fitsForm form (length v) ≡ true) × (s ≡ encoded form 0x53 v)
+    → (form : ℕ) × (v : List ℕ) × (values : List (List ℕ)) × Made (rowsOf k) v values × (fitsForm form (length v) ≡ true) × (s ≡ encoded form dataObjectTag v)
 object-made k s bytes p =
     let g = good k s p in
     let v = take (g .len) (drop (g .start) s) in
     let f = fields-read v (g .start) (front-bytes (drop (g .start) s) (g .len) (λ i. rw getD-drop (bytes (g .start + i)))) (rowsOf k) 0 (omega arith) (g .fields) in
     let w = written-back s bytes (g .whole) in
-    (g .start - length (tagBytes 0x53), v, f .0, f .1, rw (value-length s (g .whole)) (w .1), sym (take-all (g .start + g .len) s (omega (arith, g .ends))) ∙ w .3)
+    (g .start - length (tagBytes dataObjectTag), v, f .0, f .1, rw (value-length s (g .whole)) (w .1), sym (take-all (g .start + g .len) s (omega (arith, g .ends))) ∙ w .3)

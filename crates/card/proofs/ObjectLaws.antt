@@ -10,7 +10,7 @@ use lib.Dec.{eqb, leb}
 use lib.ListN.{length, take, drop, replicate, length-drop}
 use lib.Seq.{take-append-le, drop-append-le}
 use Rattle.card.specs.Tlv.{headerOf, onlyOf}
-use Rattle.card.specs.Object.{mostFields, field, part, empty, rowsOf, rowField, fieldsFrom, fieldsAnswer, objectFrom, objectOf, partIn, bytesAt, fieldPart, fieldValue, allowed, rowIn}
+use Rattle.card.specs.Object.{dataObjectTag, fascnTag, guidTag, expiryTag, signatureTag, fingersTag, mostFields, field, part, empty, rowsOf, rowField, fieldsFrom, fieldsAnswer, objectFrom, objectOf, partIn, bytesAt, fieldPart, fieldValue, allowed, rowIn}
 use Rattle.card.specs.declared.tlv.Header.{Header}
 use Rattle.card.specs.declared.tlv.Header.the-variants.{Whole, Malformed}
 use Rattle.card.specs.declared.object.Kind.{Kind}
@@ -61,17 +61,17 @@ answer-inside n true ps i = inside-append n ps (replicate (mostFields - length p
 answer-inside n false ps i = inside-empty mostFields n
 
 -- the value of the one TLV that a list is ends where the list ends
-value-end : (s : List ℕ) {tag start len : ℕ} {nested : Bool} → Whole tag nested start len ≡ onlyOf 0x53 s → start + length (take len (drop start s)) ≡ length s
+value-end : (s : List ℕ) {tag start len : ℕ} {nested : Bool} → Whole tag nested start len ≡ onlyOf dataObjectTag s → start + length (take len (drop start s)) ≡ length s
 value-end s e =
-    let i = only-is 0x53 s e in
+    let i = only-is dataObjectTag s e in
     omega (arith, i .2, value-length s (i .0))
 
 -- every part of an object lies within it, of a malformed one too: there they are empty
 pub parts-inside : (k : Kind) (s : List ℕ) → AllInside (length s) (objectOf k s .1)
 unfolding objectOf objectFrom fieldsAnswer
-parts-inside k s = by-header (onlyOf 0x53 s) refl
+parts-inside k s = by-header (onlyOf dataObjectTag s) refl
   where
-    by-header : (h : Header) → h ≡ onlyOf 0x53 s → AllInside (length s) (objectFrom h k s .1)
+    by-header : (h : Header) → h ≡ onlyOf dataObjectTag s → AllInside (length s) (objectFrom h k s .1)
     by-header Malformed e = inside-empty mostFields (length s)
     by-header (Whole tag nested start len) e =
         let v = take len (drop start s) in
@@ -114,7 +114,7 @@ pub record Good (k : Kind) (s : List ℕ) : Type 0 where
   pub nested : Bool
   pub start : ℕ
   pub len : ℕ
-  pub whole : Whole 0x53 nested start len ≡ headerOf s
+  pub whole : Whole dataObjectTag nested start len ≡ headerOf s
   pub ends : start + len ≡ length s
   pub fields : fieldsFrom (take len (drop start s)) start (rowsOf k) 0 .0 ≡ true
   pub filler : List Part
@@ -129,12 +129,12 @@ answered false ps e = absurd (omega arith)
 -- an object that is accepted is good
 pub good : (k : Kind) (s : List ℕ) → objectOf k s .0 ≡ 0 → Good k s
 unfolding objectOf objectFrom fieldsAnswer
-good k s p = by-header (onlyOf 0x53 s) refl p
+good k s p = by-header (onlyOf dataObjectTag s) refl p
   where
-    by-header : (h : Header) → h ≡ onlyOf 0x53 s → objectFrom h k s .0 ≡ 0 → Good k s
+    by-header : (h : Header) → h ≡ onlyOf dataObjectTag s → objectFrom h k s .0 ≡ 0 → Good k s
     by-header Malformed e q = absurd (omega arith)
     by-header (Whole tag nest at n) e q =
-        let i = only-is 0x53 s e in
+        let i = only-is dataObjectTag s e in
         let f = fieldsFrom (take n (drop at s)) at (rowsOf k) 0 in
         let a = answered (f .0) (f .1) q in
         record {
@@ -200,16 +200,16 @@ length-is k s tag n r p = let b = length-between k s tag n n r p in omega (arith
 
 -- the lengths of the fields that have to be there, object by object
 pub signed-lengths : (s : List ℕ) → objectOf Signed s .0 ≡ 0
-    → (fieldPart Signed 0x30 s .len ≡ 25) × (fieldPart Signed 0x34 s .len ≡ 16) × (fieldPart Signed 0x35 s .len ≡ 8) × (1 ≤ fieldPart Signed 0x3E s .len) × (fieldPart Signed 0x3E s .len ≤ 2816)
+    → (fieldPart Signed fascnTag s .len ≡ 25) × (fieldPart Signed guidTag s .len ≡ 16) × (fieldPart Signed expiryTag s .len ≡ 8) × (1 ≤ fieldPart Signed signatureTag s .len) × (fieldPart Signed signatureTag s .len ≤ 2816)
 unfolding rowIn rowsOf
 signed-lengths s p =
-    let b = length-between Signed s 0x3E 1 2816 refl p in
-    (length-is Signed s 0x30 25 refl p, length-is Signed s 0x34 16 refl p, length-is Signed s 0x35 8 refl p, b .0, b .1)
+    let b = length-between Signed s signatureTag 1 2816 refl p in
+    (length-is Signed s fascnTag 25 refl p, length-is Signed s guidTag 16 refl p, length-is Signed s expiryTag 8 refl p, b .0, b .1)
 
-pub unsigned-lengths : (s : List ℕ) → objectOf Unsigned s .0 ≡ 0 → (fieldPart Unsigned 0x30 s .len ≡ 25) × (fieldPart Unsigned 0x35 s .len ≡ 8)
+pub unsigned-lengths : (s : List ℕ) → objectOf Unsigned s .0 ≡ 0 → (fieldPart Unsigned fascnTag s .len ≡ 25) × (fieldPart Unsigned expiryTag s .len ≡ 8)
 unfolding rowIn rowsOf
-unsigned-lengths s p = (length-is Unsigned s 0x30 25 refl p, length-is Unsigned s 0x35 8 refl p)
+unsigned-lengths s p = (length-is Unsigned s fascnTag 25 refl p, length-is Unsigned s expiryTag 8 refl p)
 
-pub fingers-lengths : (s : List ℕ) → objectOf Fingers s .0 ≡ 0 → (1 ≤ fieldPart Fingers 0xBC s .len) × (fieldPart Fingers 0xBC s .len ≤ 862)
+pub fingers-lengths : (s : List ℕ) → objectOf Fingers s .0 ≡ 0 → (1 ≤ fieldPart Fingers fingersTag s .len) × (fieldPart Fingers fingersTag s .len ≤ 862)
 unfolding rowIn rowsOf
-fingers-lengths s p = length-between Fingers s 0xBC 1 862 refl p
+fingers-lengths s p = length-between Fingers s fingersTag 1 862 refl p

@@ -11,7 +11,7 @@ use lib.Dec.{eqb, leb}
 use lib.ListN.{length, take, drop, length-drop}
 use lib.Seq.{drop-drop}
 use Rattle.card.specs.Tlv.{headerOf, onlyFrom, onlyOf}
-use Rattle.card.specs.Template.{Tlv, tlv, broken, tlvsFrom, tlvsOf, every, wholeTo, lengthsOf, justOne, goodValue, goodFrom, templateOf, noted, notedAll, walked}
+use Rattle.card.specs.Template.{aidTag, heldLeast, heldMost, Tlv, tlv, broken, tlvsFrom, tlvsOf, every, wholeTo, lengthsOf, justOne, goodValue, goodFrom, templateOf, noted, notedAll, walked}
 use Rattle.card.specs.declared.tlv.Header.{Header}
 use Rattle.card.specs.declared.tlv.Header.the-variants.{Whole, Malformed}
 use Rattle.card.specs.declared.template.Walked.{Walked}
@@ -112,7 +112,7 @@ noted-two : (ts : List Tlv) → notedAll 2 ts ≡ 2
 unfolding notedAll noted
 noted-two [] = refl
 noted-two (broken ∷ ts) = noted-two ts
-noted-two (tlv tag nested value ∷ ts) = rw (stays (eqb tag 0x4F) 2) (noted-two ts)
+noted-two (tlv tag nested value ∷ ts) = rw (stays (eqb tag aidTag) 2) (noted-two ts)
 
 -- no length
 abbrev none : List ℕ → Bool
@@ -120,37 +120,37 @@ none [] = true
 none (n ∷ ns) = false
 
 -- after one, none may follow
-noted-one : (ts : List Tlv) → eqb (notedAll 1 ts) 1 ≡ none (lengthsOf 0x4F ts)
+noted-one : (ts : List Tlv) → eqb (notedAll 1 ts) 1 ≡ none (lengthsOf aidTag ts)
 unfolding notedAll noted lengthsOf
 noted-one [] = refl
 noted-one (broken ∷ ts) = noted-one ts
-noted-one (tlv tag nested value ∷ ts) = by-tag (eqb tag 0x4F) (noted-one ts)
+noted-one (tlv tag nested value ∷ ts) = by-tag (eqb tag aidTag) (noted-one ts)
   where
-    by-tag : (k : Bool) → eqb (notedAll 1 ts) 1 ≡ none (lengthsOf 0x4F ts)
-        → eqb (notedAll (cond k 2 1) ts) 1 ≡ none (cond k (length value ∷ lengthsOf 0x4F ts) (lengthsOf 0x4F ts))
+    by-tag : (k : Bool) → eqb (notedAll 1 ts) 1 ≡ none (lengthsOf aidTag ts)
+        → eqb (notedAll (cond k 2 1) ts) 1 ≡ none (cond k (length value ∷ lengthsOf aidTag ts) (lengthsOf aidTag ts))
     by-tag true p = rw (noted-two ts)
     by-tag false p = p
 
 -- just one: the first is good, and none follows
-just-cons : (n : ℕ) (ns : List ℕ) → justOne (n ∷ ns) ≡ (leb 1 n && leb n 16) && none ns
+just-cons : (n : ℕ) (ns : List ℕ) → justOne (n ∷ ns) ≡ (leb heldLeast n && leb n heldMost) && none ns
 unfolding justOne
-just-cons n [] = sym (and-true (leb 1 n && leb n 16))
-just-cons n (m ∷ ns) = sym (and-false (leb 1 n && leb n 16))
+just-cons n [] = sym (and-true (leb heldLeast n && leb n heldMost))
+just-cons n (m ∷ ns) = sym (and-false (leb heldLeast n && leb n heldMost))
 
 -- from the start: what the code notes is 1 exactly where there is just one, of 1 to 16 bytes
-pub noted-none : (ts : List Tlv) → eqb (notedAll 0 ts) 1 ≡ justOne (lengthsOf 0x4F ts)
+pub noted-none : (ts : List Tlv) → eqb (notedAll 0 ts) 1 ≡ justOne (lengthsOf aidTag ts)
 unfolding notedAll noted lengthsOf justOne
 noted-none [] = refl
 noted-none (broken ∷ ts) = noted-none ts
-noted-none (tlv tag nested value ∷ ts) = by-tag (eqb tag 0x4F) (noted-none ts)
+noted-none (tlv tag nested value ∷ ts) = by-tag (eqb tag aidTag) (noted-none ts)
   where
-    by-length : (k : Bool) → eqb (notedAll (cond k 1 2) ts) 1 ≡ k && none (lengthsOf 0x4F ts)
+    by-length : (k : Bool) → eqb (notedAll (cond k 1 2) ts) 1 ≡ k && none (lengthsOf aidTag ts)
     by-length true = noted-one ts
     by-length false = rw (noted-two ts)
 
-    by-tag : (k : Bool) → eqb (notedAll 0 ts) 1 ≡ justOne (lengthsOf 0x4F ts)
-        → eqb (notedAll (cond k (cond (leb 1 (length value) && leb (length value) 16) 1 2) 0) ts) 1 ≡ justOne (cond k (length value ∷ lengthsOf 0x4F ts) (lengthsOf 0x4F ts))
-    by-tag true p = by-length (leb 1 (length value) && leb (length value) 16) ∙ sym (just-cons (length value) (lengthsOf 0x4F ts))
+    by-tag : (k : Bool) → eqb (notedAll 0 ts) 1 ≡ justOne (lengthsOf aidTag ts)
+        → eqb (notedAll (cond k (cond (leb heldLeast (length value) && leb (length value) heldMost) 1 2) 0) ts) 1 ≡ justOne (cond k (length value ∷ lengthsOf aidTag ts) (lengthsOf aidTag ts))
+    by-tag true p = by-length (leb heldLeast (length value) && leb (length value) heldMost) ∙ sym (just-cons (length value) (lengthsOf aidTag ts))
     by-tag false p = p
 
 -- ---- the walk
@@ -230,7 +230,7 @@ pub good-is : (v : List ℕ) {w : Walked} → w ≡ walked 3 0 v → goodValue v
 unfolding goodValue walked
 good-is v e = rw e (by-whole (wholeTo 3 v))
   where
-    by-whole : (k : Bool) → k && justOne (lengthsOf 0x4F (tlvsOf v)) ≡ k && eqb (cond k (notedAll 0 (tlvsOf v)) 0) 1
+    by-whole : (k : Bool) → k && justOne (lengthsOf aidTag (tlvsOf v)) ≡ k && eqb (cond k (notedAll 0 (tlvsOf v)) 0) 1
     by-whole true = sym (noted-none (tlvsOf v))
     by-whole false = refl
 

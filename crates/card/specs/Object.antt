@@ -20,6 +20,36 @@ use Rattle.card.specs.declared.object.Object.{Object}
 use Rattle.card.specs.declared.object.ObjectAnswer.{ObjectAnswer}
 use Rattle.card.specs.declared.object.ObjectAnswer.the-variants as object-answers
 
+-- ---- the tags
+
+-- "one TLV with tag 53"
+abbrev pub dataObjectTag : ℕ
+dataObjectTag = 0x53
+
+-- "30 (25 bytes)": the FASC-N
+abbrev pub fascnTag : ℕ
+fascnTag = 0x30
+
+-- "34 (16)": the GUID
+abbrev pub guidTag : ℕ
+guidTag = 0x34
+
+-- "35 (8)": the expiry date
+abbrev pub expiryTag : ℕ
+expiryTag = 0x35
+
+-- "3E (1 to 2,816)": the issuer's signature
+abbrev pub signatureTag : ℕ
+signatureTag = 0x3E
+
+-- "BC (1 to 862)": the finger templates
+abbrev pub fingersTag : ℕ
+fingersTag = 0xBC
+
+-- "FE (0)": the error detection code, which ends an object
+abbrev pub endTag : ℕ
+endTag = 0xFE
+
 -- ---- the rows
 
 -- What a row says of its field: its tag, its least and its greatest length, and whether it may be absent.
@@ -46,9 +76,9 @@ optional tag low high = record { 0 = tag; 1 = low; 2 = high; 3 = true }
 -- 5FC104, unsigned (layout fixed here): 30 (25), 34 (16, may be absent), 35 (8), FE (0).
 -- DFC103, fingers: BC (1 to 862), FE (0, may be absent).
 unfoldable pub rowsOf : Kind → List Row
-rowsOf Signed = field 0x30 25 25 ∷ field 0x34 16 16 ∷ field 0x35 8 8 ∷ field 0x3E 1 2816 ∷ field 0xFE 0 0 ∷ []
-rowsOf Unsigned = field 0x30 25 25 ∷ optional 0x34 16 16 ∷ field 0x35 8 8 ∷ field 0xFE 0 0 ∷ []
-rowsOf Fingers = field 0xBC 1 862 ∷ optional 0xFE 0 0 ∷ []
+rowsOf Signed = field fascnTag 25 25 ∷ field guidTag 16 16 ∷ field expiryTag 8 8 ∷ field signatureTag 1 2816 ∷ field endTag 0 0 ∷ []
+rowsOf Unsigned = field fascnTag 25 25 ∷ optional guidTag 16 16 ∷ field expiryTag 8 8 ∷ field endTag 0 0 ∷ []
+rowsOf Fingers = field fingersTag 1 862 ∷ optional endTag 0 0 ∷ []
 
 -- The most fields that an object has. A layout has as many rows, and an answer as many parts.
 abbrev pub mostFields : ℕ
@@ -117,7 +147,7 @@ objectFrom (Whole tag nested start len) k s = fieldsAnswer (fieldsFrom (take len
 
 -- What the object reader gives of the object s.
 unfoldable pub objectOf : Kind → List ℕ → ℕ × List Part
-objectOf k s = objectFrom (onlyOf 0x53 s) k s
+objectOf k s = objectFrom (onlyOf dataObjectTag s) k s
 
 -- The part of the field with a tag, among the parts of some rows' fields.
 unfoldable pub partIn : List Row → List Part → ℕ → Part

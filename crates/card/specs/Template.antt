@@ -53,6 +53,24 @@ wholeTo (suc d) s = every (wholeTlv (wholeTo d)) (tlvsOf s)
 
 -- ---- the template
 
+-- "one TLV with tag 61"
+abbrev pub templateTag : ℕ
+templateTag = 0x61
+
+-- "just one 4F of 1 to 16 bytes, not compared further": the tag of an application identifier, and the least and the most bytes that it has here.
+abbrev pub aidTag : ℕ
+aidTag = 0x4F
+
+abbrev pub heldLeast : ℕ
+heldLeast = 1
+
+abbrev pub heldMost : ℕ
+heldMost = 16
+
+-- "to a depth of 4 counting 61 as 1": so many levels are left for its value.
+abbrev pub levelsLeft : ℕ
+levelsLeft = 4 - 1
+
 -- The lengths of the values with a tag among the TLVs ts.
 unfoldable pub lengthsOf : ℕ → List Tlv → List ℕ
 lengthsOf wanted [] = []
@@ -62,12 +80,12 @@ lengthsOf wanted (tlv tag nested value ∷ ts) = cond (eqb tag wanted) (length v
 -- Just one, of 1 to 16 bytes.
 unfoldable pub justOne : List ℕ → Bool
 justOne [] = false
-justOne (n ∷ []) = leb 1 n && leb n 16
+justOne (n ∷ []) = leb heldLeast n && leb n heldMost
 justOne (n ∷ m ∷ ns) = false
 
--- The value v of a 61. 61 is depth 1 of 4.
+-- The value v of a 61.
 unfoldable pub goodValue : List ℕ → Bool
-goodValue v = wholeTo (4 - 1) v && justOne (lengthsOf 0x4F (tlvsOf v))
+goodValue v = wholeTo levelsLeft v && justOne (lengthsOf aidTag (tlvsOf v))
 
 -- By the header of the one TLV 61 that s is.
 unfoldable pub goodFrom : Header → List ℕ → Bool
@@ -76,7 +94,7 @@ goodFrom (Whole tag nested start len) s = goodValue (take len (drop start s))
 
 -- Cause 19 where the template is malformed, 0 where it is good.
 unfoldable pub templateOf : List ℕ → ℕ
-templateOf s = cond (goodFrom (onlyOf 0x61 s) s) 0 19
+templateOf s = cond (goodFrom (onlyOf templateTag s) s) 0 19
 
 -- The answer of the code.
 abbrev pub templateNumber : TemplateAnswer → ℕ
@@ -87,7 +105,7 @@ templateNumber template-answers.Malformed = 19
 
 -- The 4Fs met so far, with one TLV more: 0 none, 1 just one, of 1 to 16 bytes, 2 any others.
 unfoldable pub noted : ℕ → ℕ → ℕ → ℕ
-noted n tag len = cond (eqb tag 0x4F) (cond (eqb n 0 && leb 1 len && leb len 16) 1 2) n
+noted n tag len = cond (eqb tag aidTag) (cond (eqb n 0 && leb heldLeast len && leb len heldMost) 1 2) n
 
 -- The same over TLVs.
 unfoldable pub notedAll : ℕ → List Tlv → ℕ

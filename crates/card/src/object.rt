@@ -14,8 +14,24 @@ pub enum Kind {
     Fingers,
 }
 
+// The tag of a data object, and those of its fields, as document 000 names them; the definitions have them under the same names, `dataObjectTag` and so on.
+pub const DATA_OBJECT_TAG: usize = 0x53;
+
+pub const FASCN_TAG: u8 = 0x30;
+
+pub const GUID_TAG: u8 = 0x34;
+
+pub const EXPIRY_TAG: u8 = 0x35;
+
+pub const SIGNATURE_TAG: u8 = 0x3E;
+
+pub const FINGERS_TAG: u8 = 0xBC;
+
+// The error detection code, which is empty and ends an object.
+pub const END_TAG: u8 = 0xFE;
+
 // A row of an object's layout: the field's tag, the least and the greatest length of its value, and whether it may be absent.
-pub(crate) struct Row(pub usize, pub usize, pub usize, pub bool);
+pub(crate) struct Row(pub u8, pub usize, pub usize, pub bool);
 
 // The most fields that an object has; `mostFields` in the definitions.
 pub const FIELDS: usize = 5;
@@ -77,28 +93,28 @@ fn layout_of(kind: Kind) -> Layout
         Kind::Signed => Layout {
             n: 5,
             rows: [
-                Row(0x30, 25, 25, false),
-                Row(0x34, 16, 16, false),
-                Row(0x35, 8, 8, false),
-                Row(0x3E, 1, 2816, false),
-                Row(0xFE, 0, 0, false),
+                Row(FASCN_TAG, 25, 25, false),
+                Row(GUID_TAG, 16, 16, false),
+                Row(EXPIRY_TAG, 8, 8, false),
+                Row(SIGNATURE_TAG, 1, 2816, false),
+                Row(END_TAG, 0, 0, false),
             ],
         },
         Kind::Unsigned => Layout {
             n: 4,
             rows: [
-                Row(0x30, 25, 25, false),
-                Row(0x34, 16, 16, true),
-                Row(0x35, 8, 8, false),
-                Row(0xFE, 0, 0, false),
+                Row(FASCN_TAG, 25, 25, false),
+                Row(GUID_TAG, 16, 16, true),
+                Row(EXPIRY_TAG, 8, 8, false),
+                Row(END_TAG, 0, 0, false),
                 NONE,
             ],
         },
         Kind::Fingers => Layout {
             n: 2,
             rows: [
-                Row(0xBC, 1, 862, false),
-                Row(0xFE, 0, 0, true),
+                Row(FINGERS_TAG, 1, 862, false),
+                Row(END_TAG, 0, 0, true),
                 NONE,
                 NONE,
                 NONE,
@@ -125,7 +141,7 @@ fn next_field(v: &[u8], base: usize, row: Row, at: usize) -> Field
             start,
             len,
         } => {
-            if tag != row.0 {
+            if tag != row.0 as usize {
                 return absent;
             }
             let a = at + start;
@@ -177,7 +193,7 @@ fn fields(v: &[u8], base: usize, kind: Kind) -> Object
 pub fn parse(kind: Kind, s: &[u8]) -> Object
     ensures { λ r. ⌜ objectAnswer r ≡ objectOf kind (now (s .entry)) ⌝ }
 {
-    match tlv::only(s, 0x53) {
+    match tlv::only(s, DATA_OBJECT_TAG) {
         Header::Whole {
             tag: _,
             nested: _,
@@ -198,10 +214,9 @@ pub fn part_of(kind: Kind, parts: [Part; FIELDS], tag: u8) -> Part
     let l = layout_of(kind);
     let n = l.n;
     let rows = l.rows;
-    let wanted = tag as usize;
     for i in 0..n {
         let row = rows[i];
-        if row.0 == wanted {
+        if row.0 == tag {
             return parts[i];
         }
     }

@@ -5,6 +5,19 @@ use crate::tlv::Header;
 ghost use mathlib.Core.Path.{_≡_};
 ghost use Rattle.card.specs.Template.{noted, walked, templateNumber, templateOf};
 
+// The tag of a template, and that of an application identifier in it; `templateTag` and `aidTag` in the definitions.
+pub const TEMPLATE_TAG: usize = 0x61;
+
+pub const AID_TAG: usize = 0x4F;
+
+// The least and the most bytes of the one 4F, and the levels left for the value of a template, which is depth 1 of 4; `heldLeast`, `heldMost` and
+// `levelsLeft` in the definitions.
+const HELD_LEAST: usize = 1;
+
+const HELD_MOST: usize = 16;
+
+const LEVELS_LEFT: usize = 3;
+
 // What template answers. `templateNumber` gives document 01's cause.
 pub enum TemplateAnswer {
     Accepted,
@@ -27,10 +40,10 @@ impl TemplateAnswer {
 fn note(aids: usize, tag: usize, len: usize) -> usize
     ensures { λ r. ⌜ r ≡ noted aids tag len ⌝ }
 {
-    if tag != 0x4F {
+    if tag != AID_TAG {
         return aids;
     }
-    if (aids == 0) & (1 <= len) & (len <= 16) {
+    if (aids == 0) & (HELD_LEAST <= len) & (len <= HELD_MOST) {
         1
     } else {
         2
@@ -81,18 +94,18 @@ fn walk(s: &[u8], depth: usize) -> Walked
     Walked { whole: true, aids }
 }
 
-// Whether s is a template as document 01 asks. 61 is depth 1, so that three levels are left for its value.
+// Whether s is a template as document 01 asks.
 pub fn template(s: &[u8]) -> TemplateAnswer
     ensures { λ r. ⌜ templateNumber r ≡ templateOf (now (s .entry)) ⌝ }
 {
-    match tlv::only(s, 0x61) {
+    match tlv::only(s, TEMPLATE_TAG) {
         Header::Whole {
             tag: _,
             nested: _,
             start,
             len,
         } => {
-            let found = walk(bytes::part(s, start, len), 3);
+            let found = walk(bytes::part(s, start, len), LEVELS_LEFT);
             if found.whole & (found.aids == 1) {
                 TemplateAnswer::Accepted
             } else {

@@ -154,15 +154,18 @@ fn real(s: &[u8]) {
 // The same for a name that is none of answer's.
 fn answer_object(name: &[u8], b: &[u8]) {
     if bytes::same(name, b"signed") {
-        object_of(Kind::Signed, b, b"\x30\x34\x35\x3E");
+        let tags = [object::FASCN_TAG, object::GUID_TAG, object::EXPIRY_TAG, object::SIGNATURE_TAG];
+        object_of(Kind::Signed, b, &tags);
         return;
     }
     if bytes::same(name, b"unsigned") {
-        object_of(Kind::Unsigned, b, b"\x30\x34\x35");
+        let tags = [object::FASCN_TAG, object::GUID_TAG, object::EXPIRY_TAG];
+        object_of(Kind::Unsigned, b, &tags);
         return;
     }
     if bytes::same(name, b"fingers") {
-        object_of(Kind::Fingers, b, b"\xBC");
+        let tags = [object::FINGERS_TAG];
+        object_of(Kind::Fingers, b, &tags);
         return;
     }
     command::answer(name, b);

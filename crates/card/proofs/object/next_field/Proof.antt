@@ -32,7 +32,7 @@ pub next-field-spec : {M : Type 1} → statement M
 next-field-spec =
     tie.close
     (tie.spec
-    (λ c κs. search needs) (λ c κs. search needs) (λ c. search needs) returns (λ c. omega (arith, field-fits (c .before .before .before)))
+    (λ c κs. search needs) (λ c κs. search needs) (λ c. search needs) (λ c. search needs) returns (λ c. omega (arith, field-fits (c .before .before .before)))
     (λ c. omega (arith, field-fits (c .before .before .before .before .before))) (λ c. omega (arith, field-fits (c .before .before .before .before .before)))
     (λ c. omega (arith, field-fits (c .before .before .before .before .before))) (λ c. omega (arith, field-fits (c .before .before .before .before .before)))
     (λ c. search needs) returns-2 returns-3)

@@ -4,23 +4,23 @@ use native.Mathlib.Omega.{arith}
 use borrow.Author.Needs.{needs}
 use lib.ListN.{length}
 use Rattle.card.specs.Tlv.{onlyOf}
-use Rattle.card.specs.Object.{objectFrom, objectOf}
+use Rattle.card.specs.Object.{dataObjectTag, objectFrom, objectOf}
 use Rattle.card.specs.declared.tlv.Header.the-variants.{Whole}
 use Rattle.card.proofs.TlvLaws.{value-length, only-is, header-small}
 use Rattle.card.proofs.object.parse.Statement.{statement}
 use Rattle.card.proofs.object.parse.Tie as tie
 
 -- the TLV of the arm
-whole-is : (c : tie.After-start) → let x = c .start .given .0 in Whole (x .0) (x .1 .0) (x .1 .1 .0) (x .1 .1 .1 .0) ≡ onlyOf 0x53 (c .before .before .before .before .args .s .now)
+whole-is : (c : tie.After-start) → let x = c .start .given .0 in Whole (x .0) (x .1 .0) (x .1 .1 .0) (x .1 .1 .1 .0) ≡ onlyOf dataObjectTag (c .before .before .before .before .args .s .now)
 whole-is c = sym (c .start .given .1) ∙ c .before .before .only .ensures
 
 part-requires : tie.Need-part-requires
-part-requires c κs = omega (arith, only-is 0x53 (c .before .before .before .before .before .args .s .now) (whole-is (c .before)) .2)
+part-requires c κs = omega (arith, only-is dataObjectTag (c .before .before .before .before .before .args .s .now) (whole-is (c .before)) .2)
 
 fields-requires : tie.Need-fields-requires
 fields-requires c κs =
     let s = c .before .before .before .before .before .before .args .s .now in
-    let e = only-is 0x53 s (whole-is (c .before .before)) in
+    let e = only-is dataObjectTag s (whole-is (c .before .before)) in
     omega (arith, e .2, ap length (c .part .ensures), value-length s (e .0), header-small s (λ i. c .before .before .before .before .before .shared-slice-known .given i .fits) (e .0))
 
 returns : tie.Need-returns

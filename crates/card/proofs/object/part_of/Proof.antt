@@ -12,10 +12,10 @@ use Rattle.card.proofs.object.part_of.Statement.{statement}
 use Rattle.card.proofs.object.part_of.Tie as tie
 
 abbrev Inv-loop : tie.InvT-loop
-Inv-loop tag parts n rows wanted i₀ i = (i ≤ n) × (n ≤ mostFields) × (partIn (take n rows) parts tag ≡ partIn (drop i (take n rows)) (drop i parts) tag)
+Inv-loop tag parts n rows i₀ i = (i ≤ n) × (n ≤ mostFields) × (partIn (take n rows) parts tag ≡ partIn (drop i (take n rows)) (drop i parts) tag)
 
 abbrev μ-loop : tie.MeasureT-loop
-μ-loop tag parts n rows wanted i₀ i = n - i
+μ-loop tag parts n rows i₀ i = n - i
 
 -- row i and part i stand at the front of what is left
 row-is : (c : tie.After-row Inv-loop μ-loop) → let rs = take (c .before .before .before .before .layout-of .result .n) (c .before .before .before .before .layout-of .result .rows) in

@@ -3,7 +3,7 @@ use mathlib.Core.Path.{_≡_}
 use mathlib.Core.Bool.{true, false, _&&_}
 use borrow.Author.Tests.{eq-eqb, ne-eqb}
 use lib.Dec.{eqb, leb}
-use Rattle.card.specs.Template.{noted}
+use Rattle.card.specs.Template.{heldLeast, heldMost, noted}
 use Rattle.card.proofs.template.note.Statement.{statement}
 use Rattle.card.proofs.template.note.Tie as tie
 
@@ -15,14 +15,14 @@ returns-2 : tie.Need-returns-2
 unfolding noted
 returns-2 c =
     let a = c .before .before .args in
-    let first : (eqb (a .aids) 0 && leb 1 (a .len) && leb (a .len) 16) ≡ true = c .if2 .taken in
+    let first : (eqb (a .aids) 0 && leb heldLeast (a .len) && leb (a .len) heldMost) ≡ true = c .if2 .taken in
     rw (eq-eqb _ _ (c .before .if1 .left), first)
 
 returns-3 : tie.Need-returns-3
 unfolding noted
 returns-3 c =
     let a = c .before .before .args in
-    let other : (eqb (a .aids) 0 && leb 1 (a .len) && leb (a .len) 16) ≡ false = c .if2 .left in
+    let other : (eqb (a .aids) 0 && leb heldLeast (a .len) && leb (a .len) heldMost) ≡ false = c .if2 .left in
     rw (eq-eqb _ _ (c .before .if1 .left), other)
 
 pub note-spec : {M : Type 1} → statement M

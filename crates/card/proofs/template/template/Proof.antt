@@ -5,7 +5,7 @@ use native.Mathlib.Omega.{arith}
 use borrow.Author.Needs.{needs}
 use lib.Dec.{eqb}
 use Rattle.card.specs.Tlv.{onlyOf}
-use Rattle.card.specs.Template.{goodFrom, templateOf, walked}
+use Rattle.card.specs.Template.{templateTag, goodFrom, templateOf, walked}
 use Rattle.card.specs.declared.tlv.Header.the-variants.{Whole}
 use Rattle.card.proofs.TlvLaws.{only-is}
 use Rattle.card.proofs.TemplateLaws.{good-is}
@@ -13,11 +13,11 @@ use Rattle.card.proofs.template.template.Statement.{statement}
 use Rattle.card.proofs.template.template.Tie as tie
 
 -- the TLV of the arm
-whole-is : (c : tie.After-start) → let x = c .start .given .0 in Whole (x .0) (x .1 .0) (x .1 .1 .0) (x .1 .1 .1 .0) ≡ onlyOf 0x61 (c .before .before .before .before .args .s .now)
+whole-is : (c : tie.After-start) → let x = c .start .given .0 in Whole (x .0) (x .1 .0) (x .1 .1 .0) (x .1 .1 .1 .0) ≡ onlyOf templateTag (c .before .before .before .before .args .s .now)
 whole-is c = sym (c .start .given .1) ∙ c .before .before .only .ensures
 
 part-requires : tie.Need-part-requires
-part-requires c κs = omega (arith, only-is 0x61 (c .before .before .before .before .before .args .s .now) (whole-is (c .before)) .2)
+part-requires c κs = omega (arith, only-is templateTag (c .before .before .before .before .before .args .s .now) (whole-is (c .before)) .2)
 
 -- after the walk its two findings decide
 decided : (c : tie.After-walk) → templateOf (c .before .before .before .before .before .before .before .args .s .now) ≡ cond (c .walk .result .whole && eqb (c .walk .result .aids) 1) 0 19
