@@ -8,7 +8,7 @@ use lib.Bits.{bitXor}
 use lib.Dec.{eqb}
 use lib.ListN.{getD}
 use Rattle.card.specs.Lists.{listOf, number, xorOf}
-use Rattle.card.specs.Fascn.{charBit, Piece, mark, field, order, valuesFrom, valuesOf}
+use Rattle.card.specs.Fascn.{fascnBytes, fascnCharacters, fascnDigits, charBit, Piece, mark, field, order, valuesFrom, valuesOf}
 
 -- What number_in asks: the n numbers from place at on lie within len, and n digits to the base fit 64 bits.
 pub record Readable (len at n base : ℕ) : Type 0 where
@@ -43,14 +43,14 @@ charOf x = number 2 5 (charBit x)
 
 -- The 40 characters of the bytes s, and those of the FASC-N with the digits d.
 unfoldable pub charsIn : List ℕ → List ℕ
-charsIn s = listOf 40 (regrouped 8 5 s)
+charsIn s = listOf fascnCharacters (regrouped 8 5 s)
 
 unfoldable pub charsOf : List ℕ → List ℕ
-charsOf d = listOf 40 (λ i. charOf (getD (valuesOf d) i 0))
+charsOf d = listOf fascnCharacters (λ i. charOf (getD (valuesOf d) i 0))
 
 -- The 25 bytes of the 40 characters c.
 unfoldable pub bytesOfChars : List ℕ → List ℕ
-bytesOfChars c = listOf 25 (regrouped 5 8 c)
+bytesOfChars c = listOf fascnBytes (regrouped 5 8 c)
 
 -- The parts ps, with f of each mark in its place.
 unfoldable pub marksMapped : (ℕ → ℕ) → List Piece → List Piece
@@ -70,4 +70,4 @@ marksOf (field n ∷ ps) = marksOf ps
 
 -- The exclusive or of the marks and the digits d.
 unfoldable pub checkDigits : List ℕ → ℕ
-checkDigits d = bitXor (xorOf (marksOf order)) (xorOf (listOf 32 (λ k. getD d k 0)))
+checkDigits d = bitXor (xorOf (marksOf order)) (xorOf (listOf fascnDigits (λ k. getD d k 0)))

@@ -14,6 +14,27 @@ use Rattle.card.specs.declared.fascn.PackAnswer.the-variants as pack-ans
 use Rattle.card.specs.declared.fascn.Unpacked.{Unpacked}
 use Rattle.card.specs.declared.fascn.Packed.{Packed}
 
+-- ---- the counts
+
+-- "25 bytes are 200 bits", "cut into 40 characters of 5 bits"
+abbrev pub fascnBytes : ℕ
+fascnBytes = 25
+
+abbrev pub fascnCharacters : ℕ
+fascnCharacters = 40
+
+-- "That is 32 digits."
+abbrev pub fascnDigits : ℕ
+fascnDigits = 32
+
+-- "the 39 values before it": the check character's place, counted from 0
+abbrev pub checkPlace : ℕ
+checkPlace = 39
+
+-- "its first 16 digits as one whole number": the digits of a key
+abbrev pub keyLength : ℕ
+keyLength = 16
+
 -- ---- bits and characters
 
 -- 25 bytes are 200 bits, highest bit of each byte first: bit p of the bytes s.
@@ -31,7 +52,7 @@ oddAt s i =
 
 -- The values of the 40 characters.
 unfoldable pub valuesIn : List ℕ → List ℕ
-valuesIn s = listOf 40 (valueAt s)
+valuesIn s = listOf fascnCharacters (valueAt s)
 
 -- The other way: bit j of the character with the value x, by the same rule.
 unfoldable pub charBit : ℕ → ℕ → ℕ
@@ -42,7 +63,7 @@ unfoldable pub sentBit : List ℕ → ℕ → ℕ
 sentBit v p = charBit (getD v (p / 5) 0) (p % 5)
 
 unfoldable pub bytesOf : List ℕ → List ℕ
-bytesOf v = listOf 25 (λ k. number 2 8 (λ j. sentBit v (8 * k + j)))
+bytesOf v = listOf fascnBytes (λ k. number 2 8 (λ j. sentBit v (8 * k + j)))
 
 -- ---- the order of marks and digits
 
@@ -126,7 +147,7 @@ decimalAt d k = leb (getD d k 0) 9
 
 -- The check value: the exclusive or of the 39 values before it.
 unfoldable pub checkValue : List ℕ → ℕ
-checkValue v = xorOf (take 39 v)
+checkValue v = xorOf (take checkPlace v)
 
 -- The 40 values of the FASC-N with the digits d.
 unfoldable pub valuesOf : List ℕ → List ℕ
@@ -139,33 +160,33 @@ unfoldable pub unpackRefusal : List ℕ → ℕ
 unpackRefusal s =
     let v = valuesIn s in
     refusalOf
-    ((15, not (eqb (length s) 25))
-    ∷ (16, not (all 40 (oddAt s)))
-    ∷ (17, not (marksIn v && all 32 (decimalAt (digitsIn v))))
-    ∷ (18, not (eqb (getD v 39 0) (checkValue v)))
+    ((15, not (eqb (length s) fascnBytes))
+    ∷ (16, not (all fascnCharacters (oddAt s)))
+    ∷ (17, not (marksIn v && all fascnDigits (decimalAt (digitsIn v))))
+    ∷ (18, not (eqb (getD v checkPlace 0) (checkValue v)))
     ∷ [])
 
 -- The digits d beside the number n, or 32 zeros where n refuses.
 abbrev pub unpackAnswer : ℕ → List ℕ → ℕ × List ℕ
-unpackAnswer n d = (n, cond (eqb n 0) d (replicate 32 0))
+unpackAnswer n d = (n, cond (eqb n 0) d (replicate fascnDigits 0))
 
 unfoldable pub unpackOf : List ℕ → ℕ × List ℕ
 unpackOf s = unpackAnswer (unpackRefusal s) (digitsIn (valuesIn s))
 
 -- Pack: 19 a digit above 9.
 unfoldable pub packRefusal : List ℕ → ℕ
-packRefusal d = refusalOf ((19, not (all 32 (decimalAt d))) ∷ [])
+packRefusal d = refusalOf ((19, not (all fascnDigits (decimalAt d))) ∷ [])
 
 -- The 25 bytes, or as many zeros where the digits are refused.
 abbrev pub packAnswer : ℕ → List ℕ → ℕ × List ℕ
-packAnswer n b = (n, cond (eqb n 0) b (replicate 25 0))
+packAnswer n b = (n, cond (eqb n 0) b (replicate fascnBytes 0))
 
 unfoldable pub packOf : List ℕ → ℕ × List ℕ
 packOf d = packAnswer (packRefusal d) (bytesOf (valuesOf d))
 
 -- Document 01's key of a card: its first 16 digits as one whole number.
 unfoldable pub keyOf : List ℕ → ℕ
-keyOf d = number 10 16 (λ k. getD d k 0)
+keyOf d = number 10 keyLength (λ k. getD d k 0)
 
 -- ---- the answers of the code: document 01's number of each case, and the values beside it
 

@@ -11,6 +11,18 @@ ghost use Rattle.card.specs.Lists.{sameBytes};
 ghost use Rattle.card.specs.Refusal.{refusalOf};
 ghost use Rattle.card.specs.Fascn.{unpackNumber, packNumber, unpacked, packed, unpackAnswer, unpackOf, packOf, keyOf};
 
+// A FASC-N has so many bytes, characters and digits, its check character stands at this place, counted from 0, and its key has so many digits; `fascnBytes`,
+// `fascnCharacters`, `fascnDigits`, `checkPlace` and `keyLength` in the definitions.
+pub const FASCN_BYTES: usize = 25;
+
+pub const CHARACTERS: usize = 40;
+
+pub const DIGITS: usize = 32;
+
+pub const CHECK_PLACE: usize = 39;
+
+pub const KEY_DIGITS: usize = 16;
+
 // What unpack answers: the digits, or the first fault of document 01's list. `unpackNumber` gives the number of each.
 pub enum UnpackAnswer {
     Accepted,
@@ -42,7 +54,7 @@ impl UnpackAnswer {
 // The 32 digits beside the answer; zeros where the bytes are refused.
 pub struct Unpacked {
     pub answer: UnpackAnswer,
-    pub digits: [u8; 32],
+    pub digits: [u8; DIGITS],
 }
 
 // What pack answers: the bytes, or that a digit is above 9. `packNumber` gives the number of each.
@@ -67,32 +79,32 @@ impl PackAnswer {
 // The 25 bytes beside the answer; zeros where the digits are refused.
 pub struct Packed {
     pub answer: PackAnswer,
-    pub bytes: [u8; 25],
+    pub bytes: [u8; FASCN_BYTES],
 }
 
 // Document 01's key of a card: its first 16 digits as one whole number. A type of its own, so that no other number is taken for one.
 pub struct Key(pub u64);
 
 // The answer for 25 bytes: the tests on their characters in document 01's order, and the digits where all are passed.
-fn judged(odd: bool, placed: bool, check: u8, expected: u8, digits: [u8; 32]) -> Unpacked
+fn judged(odd: bool, placed: bool, check: u8, expected: u8, digits: [u8; DIGITS]) -> Unpacked
     ensures { λ r. ⌜ unpacked r ≡ unpackAnswer (refusalOf ((16, not odd) ∷ (17, not placed) ∷ (18, not (eqb check expected)) ∷ [])) digits ⌝ }
 {
     if !odd {
         return Unpacked {
             answer: UnpackAnswer::WrongParity,
-            digits: [0; 32],
+            digits: [0; DIGITS],
         };
     }
     if !placed {
         return Unpacked {
             answer: UnpackAnswer::OutOfPlace,
-            digits: [0; 32],
+            digits: [0; DIGITS],
         };
     }
     if check != expected {
         return Unpacked {
             answer: UnpackAnswer::WrongCheck,
-            digits: [0; 32],
+            digits: [0; DIGITS],
         };
     }
     Unpacked {
@@ -105,10 +117,10 @@ fn judged(odd: bool, placed: bool, check: u8, expected: u8, digits: [u8; 32]) ->
 pub fn unpack(s: &[u8]) -> Unpacked
     ensures { λ r. ⌜ unpacked r ≡ unpackOf (now (s .entry)) ⌝ }
 {
-    if s.len() != 25 {
+    if s.len() != FASCN_BYTES {
         return Unpacked {
             answer: UnpackAnswer::WrongLength,
-            digits: [0; 32],
+            digits: [0; DIGITS],
         };
     }
     let c = characters::characters_in(s);
@@ -116,17 +128,17 @@ pub fn unpack(s: &[u8]) -> Unpacked
     let d = order::digits_in(&v);
     let odd = characters::all_odd(&c);
     let placed = order::marks_in(&v) & order::all_decimal(&d);
-    judged(odd, placed, v[39], order::check_value(&d), d)
+    judged(odd, placed, v[CHECK_PLACE], order::check_value(&d), d)
 }
 
 // The 25 bytes of the FASC-N with the digits d, or that one of them is above 9.
-pub fn pack(d: [u8; 32]) -> Packed
+pub fn pack(d: [u8; DIGITS]) -> Packed
     ensures { λ r. ⌜ packed r ≡ packOf d ⌝ }
 {
     if !order::all_decimal(&d) {
         return Packed {
             answer: PackAnswer::AboveNine,
-            bytes: [0; 25],
+            bytes: [0; FASCN_BYTES],
         };
     }
     let c = order::characters_of(&d);
@@ -137,11 +149,11 @@ pub fn pack(d: [u8; 32]) -> Packed
 }
 
 // The key of the card with the digits d.
-pub fn key_of(d: [u8; 32]) -> Key
+pub fn key_of(d: [u8; DIGITS]) -> Key
     ensures { λ r. ⌜ r .0 ≡ keyOf d ⌝ }
 {
     let mut n = 0u64;
-    for k in 0..16 {
+    for k in 0..KEY_DIGITS {
         n = n * 10 + characters::wide(d[k]);
     }
     Key(n)

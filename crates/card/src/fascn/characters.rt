@@ -1,9 +1,12 @@
 // 25 bytes as 40 characters of 5 bits, and back. Five bytes are eight characters: each way goes by numbers of 40 bits.
 // A character is kept as one number, the bit sent first highest.
+use crate::fascn::CHARACTERS;
+use crate::fascn::FASCN_BYTES;
 ghost use mathlib.Core.Path.{_≡_};
 ghost use Prim.Native.Nat.{_+_, _-_, _*_, _%_, _/_, _^_, _<_};
 ghost use lib.ListN.{length, getD};
 ghost use Rattle.card.specs.Lists.{listOf, all, number, written};
+ghost use Rattle.card.specs.Fascn.{fascnBytes, fascnCharacters};
 ghost use Rattle.card.specs.Characters.{Readable, Writable, oddChar, valueChar, charOf, charsIn, bytesOfChars};
 
 pub(crate) fn wide(x: u8) -> u64
@@ -35,11 +38,11 @@ fn put_digits(out: &mut [u8], at: usize, w: u64, n: usize, bits: usize, base: u6
 }
 
 // The 40 characters of 25 bytes.
-pub(crate) fn characters_in(s: &[u8]) -> [u8; 40]
-    requires { ⌜ length (now s) ≡ 25 ⌝ }
+pub(crate) fn characters_in(s: &[u8]) -> [u8; CHARACTERS]
+    requires { ⌜ length (now s) ≡ fascnBytes ⌝ }
     ensures { λ r. ⌜ r ≡ charsIn (now (s .entry)) ⌝ }
 {
-    let mut c = [0u8; 40];
+    let mut c = [0u8; CHARACTERS];
     for g in 0..5 {
         let w = number_in(s, 5 * g, 5, 256);
         put_digits(&mut c, 8 * g, w, 8, 5, 32);
@@ -48,10 +51,10 @@ pub(crate) fn characters_in(s: &[u8]) -> [u8; 40]
 }
 
 // The 25 bytes of 40 characters.
-pub(crate) fn bytes_of(c: &[u8; 40]) -> [u8; 25]
+pub(crate) fn bytes_of(c: &[u8; CHARACTERS]) -> [u8; FASCN_BYTES]
     ensures { λ r. ⌜ r ≡ bytesOfChars (now (c .entry)) ⌝ }
 {
-    let mut s = [0u8; 25];
+    let mut s = [0u8; FASCN_BYTES];
     for g in 0..5 {
         let w = number_in(c, 8 * g, 8, 32);
         put_digits(&mut s, 5 * g, w, 5, 8, 256);
@@ -85,22 +88,22 @@ pub(crate) fn character_of(x: u8) -> u8
 }
 
 // Every character has an odd count of ones.
-pub(crate) fn all_odd(c: &[u8; 40]) -> bool
-    ensures { λ r. ⌜ r ≡ all 40 (λ i. oddChar (getD (now (c .entry)) i 0)) ⌝ }
+pub(crate) fn all_odd(c: &[u8; CHARACTERS]) -> bool
+    ensures { λ r. ⌜ r ≡ all fascnCharacters (λ i. oddChar (getD (now (c .entry)) i 0)) ⌝ }
 {
     let mut ok = true;
-    for i in 0..40 {
+    for i in 0..CHARACTERS {
         ok = ok & odd(c[i]);
     }
     ok
 }
 
 // The values of the characters.
-pub(crate) fn values_in(c: &[u8; 40]) -> [u8; 40]
-    ensures { λ r. ⌜ r ≡ listOf 40 (λ i. valueChar (getD (now (c .entry)) i 0)) ⌝ }
+pub(crate) fn values_in(c: &[u8; CHARACTERS]) -> [u8; CHARACTERS]
+    ensures { λ r. ⌜ r ≡ listOf fascnCharacters (λ i. valueChar (getD (now (c .entry)) i 0)) ⌝ }
 {
-    let mut v = [0u8; 40];
-    for i in 0..40 {
+    let mut v = [0u8; CHARACTERS];
+    for i in 0..CHARACTERS {
         v[i] = value(c[i]);
     }
     v

@@ -1,10 +1,13 @@
 // The order of a FASC-N: where its digits and marks stand among the 40 characters, and the check value.
 use crate::bytes;
+use crate::fascn::CHARACTERS;
+use crate::fascn::CHECK_PLACE;
+use crate::fascn::DIGITS;
 use crate::fascn::characters;
 ghost use mathlib.Core.Path.{_≡_};
 ghost use lib.ListN.{getD};
 ghost use Rattle.card.specs.Lists.{listOf, all};
-ghost use Rattle.card.specs.Fascn.{digitsIn, marksIn, decimalAt};
+ghost use Rattle.card.specs.Fascn.{fascnDigits, digitsIn, marksIn, decimalAt};
 ghost use Rattle.card.specs.Characters.{charOf, inOrder, checkDigits, charsOf};
 
 const SS: u8 = 11;
@@ -14,10 +17,10 @@ const FS: u8 = 13;
 const ES: u8 = 15;
 
 // The digits among the 40 values.
-pub(crate) fn digits_in(v: &[u8; 40]) -> [u8; 32]
+pub(crate) fn digits_in(v: &[u8; CHARACTERS]) -> [u8; DIGITS]
     ensures { λ r. ⌜ r ≡ digitsIn (now (v .entry)) ⌝ }
 {
-    let mut d = [0u8; 32];
+    let mut d = [0u8; DIGITS];
     // agency, system, credential, series, issue; then person, category, organisation and association, with no mark between
     bytes::copy_run(&mut d, 0, v, 1, 4);
     bytes::copy_run(&mut d, 4, v, 6, 4);
@@ -29,7 +32,7 @@ pub(crate) fn digits_in(v: &[u8; 40]) -> [u8; 32]
 }
 
 // Every mark stands in its place among the 40 values.
-pub(crate) fn marks_in(v: &[u8; 40]) -> bool
+pub(crate) fn marks_in(v: &[u8; CHARACTERS]) -> bool
     ensures { λ r. ⌜ r ≡ marksIn (now (v .entry)) ⌝ }
 {
     (v[0] == SS)
@@ -42,43 +45,43 @@ pub(crate) fn marks_in(v: &[u8; 40]) -> bool
 }
 
 // No digit is above 9.
-pub(crate) fn all_decimal(d: &[u8; 32]) -> bool
-    ensures { λ r. ⌜ r ≡ all 32 (decimalAt (now (d .entry))) ⌝ }
+pub(crate) fn all_decimal(d: &[u8; DIGITS]) -> bool
+    ensures { λ r. ⌜ r ≡ all fascnDigits (decimalAt (now (d .entry))) ⌝ }
 {
     let mut ok = true;
-    for k in 0..32 {
+    for k in 0..DIGITS {
         ok = ok & (d[k] <= 9);
     }
     ok
 }
 
 // The exclusive or of the marks and the digits.
-pub(crate) fn check_value(d: &[u8; 32]) -> u8
+pub(crate) fn check_value(d: &[u8; DIGITS]) -> u8
     ensures { λ r. ⌜ r ≡ checkDigits (now (d .entry)) ⌝ }
 {
     let mut x = SS ^ FS ^ FS ^ FS ^ FS ^ FS ^ ES;
-    for k in 0..32 {
+    for k in 0..DIGITS {
         x = x ^ d[k];
     }
     x
 }
 
 // The characters of the digits.
-fn digit_characters(d: &[u8; 32]) -> [u8; 32]
-    ensures { λ r. ⌜ r ≡ listOf 32 (λ k. charOf (getD (now (d .entry)) k 0)) ⌝ }
+fn digit_characters(d: &[u8; DIGITS]) -> [u8; DIGITS]
+    ensures { λ r. ⌜ r ≡ listOf fascnDigits (λ k. charOf (getD (now (d .entry)) k 0)) ⌝ }
 {
-    let mut c = [0u8; 32];
-    for k in 0..32 {
+    let mut c = [0u8; DIGITS];
+    for k in 0..DIGITS {
         c[k] = characters::character_of(d[k]);
     }
     c
 }
 
 // 40 characters in order: the digits' characters e, the marks' between them, and the check character last.
-fn in_order(e: &[u8; 32], ss: u8, fs: u8, es: u8, check: u8) -> [u8; 40]
+fn in_order(e: &[u8; DIGITS], ss: u8, fs: u8, es: u8, check: u8) -> [u8; CHARACTERS]
     ensures { λ r. ⌜ r ≡ inOrder (now (e .entry)) ss fs es check ⌝ }
 {
-    let mut c = [fs; 40];
+    let mut c = [fs; CHARACTERS];
     c[0] = ss;
     // the runs of digits_in, the other way
     bytes::copy_run(&mut c, 1, e, 0, 4);
@@ -88,12 +91,12 @@ fn in_order(e: &[u8; 32], ss: u8, fs: u8, es: u8, check: u8) -> [u8; 40]
     bytes::copy_run(&mut c, 20, e, 15, 1);
     bytes::copy_run(&mut c, 22, e, 16, 16);
     c[38] = es;
-    c[39] = check;
+    c[CHECK_PLACE] = check;
     c
 }
 
 // The 40 characters of the FASC-N with the digits d.
-pub(crate) fn characters_of(d: &[u8; 32]) -> [u8; 40]
+pub(crate) fn characters_of(d: &[u8; DIGITS]) -> [u8; CHARACTERS]
     ensures { λ r. ⌜ r ≡ charsOf (now (d .entry)) ⌝ }
 {
     let e = digit_characters(d);
