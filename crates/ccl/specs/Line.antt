@@ -5,19 +5,23 @@ use mathlib.Core.List.{List, [], _∷_, _++_}
 use Prim.Native.Nat.{ℕ, _+_, _-_, _/_, _%_, _^_}
 use lib.ListN.{getD}
 use Rattle.card.specs.Lists.{listOf, sliceOf, number}
+use Rattle.card.specs.Fascn.{keyLength}
 use Rattle.text.specs.Form.{between}
 use Rattle.ccl.specs.declared.line.CardKey.{CardKey}
 use Rattle.ccl.specs.declared.line.CardKey.the-variants.{Card, Malformed}
 
--- A key has 16 digits: keys are the numbers below this one.
+-- A key has 16 digits: keys are the numbers below this one, up to the highest.
 abbrev pub keyLimit : ℕ
-keyLimit = 10000000000000000
+keyLimit = 10 ^ keyLength
+
+abbrev pub highestKey : ℕ
+highestKey = keyLimit - 1
 
 -- ---- the line of a key
 
 -- Digit k of the 16 in ASCII, digit 0 the highest, and n of them from digit k on.
 unfoldable pub digitOf : ℕ → ℕ → ℕ
-digitOf key k = 48 + key / 10 ^ (15 - k) % 10
+digitOf key k = 48 + key / 10 ^ (keyLength - 1 - k) % 10
 
 abbrev pub digits : ℕ → ℕ → ℕ → List ℕ
 digits key k n = listOf n (λ j. digitOf key (k + j))
@@ -48,17 +52,17 @@ lineOf key = cardText key ++ (0x0A ∷ [])
 
 -- A line is good where it has the form of the lines of the lowest and the highest key; so is a card's text, which lacks the 0A.
 unfoldable pub goodLine : List ℕ → Bool
-goodLine s = between (lineOf 0) (lineOf 9999999999999999) s
+goodLine s = between (lineOf 0) (lineOf highestKey) s
 
 unfoldable pub goodCard : List ℕ → Bool
-goodCard s = between (cardText 0) (cardText 9999999999999999) s
+goodCard s = between (cardText 0) (cardText highestKey) s
 
 -- The bytes at the digits' places, and the number that they spell: the value of an ASCII digit is its low four bits.
 unfoldable pub keyDigits : List ℕ → List ℕ
 keyDigits s = sliceOf 7 4 s ++ sliceOf 12 4 s ++ sliceOf 17 6 s ++ sliceOf 26 1 s ++ sliceOf 28 1 s
 
 unfoldable pub keySpelled : List ℕ → ℕ
-keySpelled d = number 10 16 (λ k. getD d k 0 % 16)
+keySpelled d = number 10 keyLength (λ k. getD d k 0 % 16)
 
 unfoldable pub lineKey : List ℕ → ℕ
 lineKey s = keySpelled (keyDigits s)

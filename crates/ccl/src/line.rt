@@ -3,8 +3,16 @@ ghost use mathlib.Core.Path.{_≡_};
 ghost use Prim.Native.Nat.{_<_};
 ghost use lib.ListN.{length};
 ghost use Rattle.card.specs.Lists.{listOf};
+ghost use Rattle.card.specs.Fascn.{keyLength};
 ghost use Rattle.ccl.specs.Line.{digitOf, lineOf, keyDigits, keySpelled, lineKey, cardAnswer, cardOf};
+use card::fascn::KEY_DIGITS;
 use text::form;
+
+// The bytes of a line, its 0A among them; `lineSize` in the definitions.
+pub const LINE: usize = 32;
+
+// A key is below this number, 10 to the power of its count of digits; `keyLimit` in the definitions.
+pub const KEY_LIMIT: u64 = 10000000000000000;
 
 // What card_key answers: the key, or that the text is no card's. `cardAnswer` gives document 01's number of each.
 pub enum CardKey {
@@ -13,7 +21,7 @@ pub enum CardKey {
 }
 
 // The bytes at the places of the digits in a line, or in a line without its 0A.
-fn key_digits(s: &[u8]) -> [u8; 16]
+fn key_digits(s: &[u8]) -> [u8; KEY_DIGITS]
     requires { ⌜ 28 < length (now s) ⌝ }
     ensures { λ r. ⌜ r ≡ keyDigits (now (s .entry)) ⌝ }
 {
@@ -38,11 +46,11 @@ fn key_digits(s: &[u8]) -> [u8; 16]
 }
 
 // The number that 16 digits spell.
-fn key_spelled(d: &[u8; 16]) -> u64
+fn key_spelled(d: &[u8; KEY_DIGITS]) -> u64
     ensures { λ r. ⌜ r ≡ keySpelled (now (d .entry)) ⌝ }
 {
     let mut n: u64 = 0;
-    for k in 0..16 {
+    for k in 0..KEY_DIGITS {
         n = n * 10 + (d[k] % 16) as u64;
     }
     n
@@ -73,12 +81,12 @@ pub fn card_key(s: &[u8]) -> CardKey
 }
 
 // The 16 digits of a key in ASCII, the highest first.
-fn digits_of(key: u64) -> [u8; 16]
-    ensures { λ r. ⌜ r ≡ listOf 16 (digitOf key) ⌝ }
+fn digits_of(key: u64) -> [u8; KEY_DIGITS]
+    ensures { λ r. ⌜ r ≡ listOf keyLength (digitOf key) ⌝ }
 {
-    let mut d = [0u8; 16];
+    let mut d = [0u8; KEY_DIGITS];
     let mut rest = key;
-    let mut k = 16;
+    let mut k = KEY_DIGITS;
     while k > 0 {
         k -= 1;
         d[k] = 48 + (rest % 10) as u8;
@@ -88,7 +96,7 @@ fn digits_of(key: u64) -> [u8; 16]
 }
 
 // The line of a key.
-pub(crate) fn line_of(key: u64) -> [u8; 32]
+pub(crate) fn line_of(key: u64) -> [u8; LINE]
     ensures { λ r. ⌜ r ≡ lineOf key ⌝ }
 {
     let d = digits_of(key);

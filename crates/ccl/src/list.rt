@@ -4,8 +4,10 @@ ghost use Prim.Native.Nat.{_+_, _*_, _/_, _≤_};
 ghost use lib.ListN.{length};
 ghost use Rattle.card.specs.Lists.{overFront, written, overPlaces};
 ghost use Rattle.text.specs.Form.{between};
-ghost use Rattle.ccl.specs.ListText.{goodLines, keyAt, readAnswer, readOf, keysAfter, smallKeys, linesOf, writeAnswer, writeOf, textAfter};
+ghost use Rattle.ccl.specs.ListText.{lineSize, goodLines, keyAt, readAnswer, readOf, keysAfter, smallKeys, linesOf, writeAnswer, writeOf, textAfter};
 use crate::line;
+use crate::line::KEY_LIMIT;
+use crate::line::LINE;
 
 // What read answers: how many keys, the number of the first malformed line, or that the places are too few. `readAnswer` gives document 01's number of each.
 pub enum ListRead {
@@ -48,12 +50,12 @@ impl ListWritten {
 }
 
 // Whether the 32 bytes s are a list line; the two strings are the lines of the lowest and the highest key. There is no early exit.
-fn good_line(s: &[u8], lowest: &[u8; 32], highest: &[u8; 32]) -> bool
-    requires { ⌜ (length (now s) ≡ 32) × (length (now lowest) ≡ 32) × (length (now highest) ≡ 32) ⌝ }
+fn good_line(s: &[u8], lowest: &[u8; LINE], highest: &[u8; LINE]) -> bool
+    requires { ⌜ (length (now s) ≡ lineSize) × (length (now lowest) ≡ lineSize) × (length (now highest) ≡ lineSize) ⌝ }
     ensures { λ r. ⌜ r ≡ between (now (lowest .entry)) (now (highest .entry)) (now (s .entry)) ⌝ }
 {
     let mut ok = true;
-    for i in 0..32 {
+    for i in 0..LINE {
         ok = ok & ((lowest[i] <= s[i]) & (s[i] <= highest[i]));
     }
     ok
@@ -62,15 +64,15 @@ fn good_line(s: &[u8], lowest: &[u8; 32], highest: &[u8; 32]) -> bool
 // How many good lines the text begins with.
 fn good_lines(text: &[u8]) -> usize
     ensures { λ r. ⌜ r ≡ goodLines (now (text .entry)) ⌝ }
-    ensures inside { λ r. ⌜ 32 * r ≤ length (now (text .entry)) ⌝ }
+    ensures inside { λ r. ⌜ lineSize * r ≤ length (now (text .entry)) ⌝ }
 {
     let lowest = b"(card (0000 0000 000000) (0 0))\n";
     let highest = b"(card (9999 9999 999999) (9 9))\n";
-    let lines = text.len() / 32;
+    let lines = text.len() / LINE;
     let mut n = 0;
     while n < lines {
-        let at = 32 * n;
-        let end = at + 32;
+        let at = LINE * n;
+        let end = at + LINE;
         if !good_line(&text[at..end], lowest, highest) {
             return n;
         }
@@ -81,12 +83,12 @@ fn good_lines(text: &[u8]) -> usize
 
 // The keys of the first n lines, stored at the front of keys.
 fn put_keys(text: &[u8], n: usize, keys: &mut [u64])
-    requires { ⌜ (32 * n ≤ length (now text)) × (n ≤ length (now keys)) ⌝ }
+    requires { ⌜ (lineSize * n ≤ length (now text)) × (n ≤ length (now keys)) ⌝ }
     ensures { λ r. ⌜ now (keys .exit) ≡ written (now (keys .entry)) 0 n (keyAt (now (text .entry))) ⌝ }
 {
     for i in 0..n {
-        let at = 32 * i;
-        let end = at + 32;
+        let at = LINE * i;
+        let end = at + LINE;
         keys[i] = line::line_key(&text[at..end]);
     }
 }
@@ -97,7 +99,7 @@ pub fn read(text: &[u8], keys: &mut [u64]) -> ListRead
     ensures { λ r. ⌜ now (keys .exit) ≡ keysAfter (now (text .entry)) (now (keys .entry)) ⌝ }
 {
     let n = good_lines(text);
-    if 32 * n != text.len() {
+    if LINE * n != text.len() {
         return ListRead::Malformed(n + 1);
     }
     if keys.len() < n {
@@ -113,29 +115,29 @@ fn small_keys(keys: &[u64]) -> bool
 {
     let mut ok = true;
     for i in 0..keys.len() {
-        ok = ok & (keys[i] < 10000000000000000);
+        ok = ok & (keys[i] < KEY_LIMIT);
     }
     ok
 }
 
 // A line stored in out from place `at` on.
-fn put_line(out: &mut [u8], at: usize, line: &[u8; 32])
-    requires { ⌜ (at + 32 ≤ length (now out)) × (length (now line) ≡ 32) ⌝ }
+fn put_line(out: &mut [u8], at: usize, line: &[u8; LINE])
+    requires { ⌜ (at + lineSize ≤ length (now out)) × (length (now line) ≡ lineSize) ⌝ }
     ensures { λ r. ⌜ now (out .exit) ≡ overPlaces (now (out .entry)) at (now (line .entry)) ⌝ }
 {
-    for j in 0..32 {
+    for j in 0..LINE {
         out[at + j] = line[j];
     }
 }
 
 // The lines of the keys, stored at the front of out.
 fn put_lines(keys: &[u64], out: &mut [u8])
-    requires { ⌜ length (now keys) ≤ length (now out) / 32 ⌝ }
+    requires { ⌜ length (now keys) ≤ length (now out) / lineSize ⌝ }
     ensures { λ r. ⌜ now (out .exit) ≡ overFront (linesOf (now (keys .entry))) (now (out .entry)) ⌝ }
 {
     for i in 0..keys.len() {
         let line = line::line_of(keys[i]);
-        put_line(out, 32 * i, &line);
+        put_line(out, LINE * i, &line);
     }
 }
 
@@ -147,7 +149,7 @@ pub fn write(keys: &[u64], out: &mut [u8]) -> ListWritten
     if !small_keys(keys) {
         return ListWritten::KeyTooLarge;
     }
-    if out.len() / 32 < keys.len() {
+    if out.len() / LINE < keys.len() {
         return ListWritten::ShortBuffer;
     }
     put_lines(keys, out);
