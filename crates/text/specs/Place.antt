@@ -15,3 +15,7 @@ countBefore x (y ∷ s) = cond (eqb y x) 0 (suc (countBefore x s))
 -- The list s over the places of l from place at on, where all of it fits.
 unfoldable pub overPlacesWhere : List ℕ → ℕ → List ℕ → List ℕ
 overPlacesWhere l at s = cond (leb (at + length s) (length l)) (overPlaces l at s) l
+
+-- How the code goes about it, no public contract cites this: so many bytes are looked at at once.
+abbrev pub blockSize : ℕ
+blockSize = 32

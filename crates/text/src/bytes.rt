@@ -5,34 +5,37 @@ ghost use Prim.Native.Nat.{_+_, _≤_};
 ghost use lib.Dec.{eqb};
 ghost use lib.ListN.{length, getD, drop};
 ghost use Rattle.card.specs.Lists.{all, overPlaces};
-ghost use Rattle.text.specs.Place.{countBefore, overPlacesWhere};
+ghost use Rattle.text.specs.Place.{blockSize, countBefore, overPlacesWhere};
 
-// None of the 32 bytes from place `at` on is x. Every one is looked at: there is no early exit.
+// The bytes of a block, in which a byte is looked for at once; `blockSize` in the definitions.
+const BLOCK: usize = 32;
+
+// None of the bytes of the block from place `at` on is x. Every one is looked at: there is no early exit.
 fn none_of(s: &[u8], at: usize, x: u8) -> bool
-    requires { ⌜ at + 32 ≤ length (now s) ⌝ }
-    ensures { λ r. ⌜ r ≡ all 32 (λ j. not (eqb (getD (now (s .entry)) (at + j) 0) x)) ⌝ }
+    requires { ⌜ at + blockSize ≤ length (now s) ⌝ }
+    ensures { λ r. ⌜ r ≡ all blockSize (λ j. not (eqb (getD (now (s .entry)) (at + j) 0) x)) ⌝ }
 {
     let mut absent = true;
-    for j in 0..32 {
+    for j in 0..BLOCK {
         absent = absent & (s[at + j] != x);
     }
     absent
 }
 
-// A place from `from` on, and no x stands between the two: the blocks of 32 bytes without an x are passed.
+// A place from `from` on, and no x stands between the two: the blocks without an x are passed.
 fn past_blocks(s: &[u8], from: usize, x: u8) -> usize
     ensures is { λ r. ⌜ from + countBefore x (drop from (now (s .entry))) ≡ r + countBefore x (drop r (now (s .entry))) ⌝ }
     ensures inside { λ r. ⌜ (from ≤ length (now (s .entry)) → r ≤ length (now (s .entry))) ⌝ }
 {
     let mut i = from;
     while i < s.len() {
-        if s.len() - i < 32 {
+        if s.len() - i < BLOCK {
             return i;
         }
         if !none_of(s, i, x) {
             return i;
         }
-        i += 32;
+        i += BLOCK;
     }
     i
 }

@@ -4,13 +4,13 @@ use crate::report::object;
 use card::bytes;
 use card::fascn;
 ghost use mathlib.Core.Path.{_≡_};
-ghost use Prim.Native.Nat.{_+_, _<_};
+ghost use Prim.Native.Nat.{_+_, _*_, _<_};
 ghost use lib.ListN.{length};
-ghost use Rattle.card.specs.Fascn.{bitAt};
+ghost use Rattle.card.specs.Fascn.{fascnBytes, fascnCharacters, fascnDigits, bitAt};
 
 // The digits by field: agency, system, credential, series, issue, person, category, organisation, association.
-fn print_digits(d: [u8; 32]) {
-    for k in 0..32 {
+fn print_digits(d: [u8; fascn::DIGITS]) {
+    for k in 0..fascn::DIGITS {
         if (k == 4)
             | (k == 8)
             | (k == 14)
@@ -28,16 +28,16 @@ fn print_digits(d: [u8; 32]) {
 }
 
 // Bit p of 25 bytes, as the digit 0 or 1.
-fn bit_digit(s: [u8; 25], p: usize) -> u8
-    requires { ⌜ p < 200 ⌝ }
+fn bit_digit(s: [u8; fascn::FASCN_BYTES], p: usize) -> u8
+    requires { ⌜ p < 8 * fascnBytes ⌝ }
     ensures { λ r. ⌜ r ≡ bitAt s p + 48 ⌝ }
 {
     (s[p / 8] >> (7 - p % 8)) % 2 + 48
 }
 
 // The five bits of character i of 25 bytes, in the order sent.
-fn print_character(s: [u8; 25], i: usize)
-    requires { ⌜ i < 40 ⌝ }
+fn print_character(s: [u8; fascn::FASCN_BYTES], i: usize)
+    requires { ⌜ i < fascnCharacters ⌝ }
 {
     let text = [
         bit_digit(s, 5 * i),
@@ -50,12 +50,12 @@ fn print_character(s: [u8; 25], i: usize)
 }
 
 // The digits, the check character, the key, and the bytes that the digits pack to.
-fn print_unpacked(d: [u8; 32]) {
+fn print_unpacked(d: [u8; fascn::DIGITS]) {
     print_digits(d);
     let p = fascn::pack(d);
     let again = p.bytes;
     print::text(b", check character ");
-    print_character(again, 39);
+    print_character(again, fascn::CHECK_PLACE);
     print::text(b", key ");
     let key = fascn::key_of(d);
     print::number(key.0);
@@ -77,12 +77,12 @@ fn unpack(s: &[u8]) {
 }
 
 // The 32 bytes of s.
-fn digits_in(s: &[u8]) -> [u8; 32]
-    requires { ⌜ length (now s) ≡ 32 ⌝ }
+fn digits_in(s: &[u8]) -> [u8; fascn::DIGITS]
+    requires { ⌜ length (now s) ≡ fascnDigits ⌝ }
     ensures { λ r. ⌜ r ≡ now (s .entry) ⌝ }
 {
-    let mut d = [0u8; 32];
-    for i in 0..32 {
+    let mut d = [0u8; fascn::DIGITS];
+    for i in 0..fascn::DIGITS {
         d[i] = s[i];
     }
     d
@@ -90,7 +90,7 @@ fn digits_in(s: &[u8]) -> [u8; 32]
 
 // What pack says of the 32 digits s.
 fn pack(s: &[u8]) {
-    if s.len() != 32 {
+    if s.len() != fascn::DIGITS {
         print::no_vector();
         return;
     }
@@ -121,9 +121,9 @@ pub(crate) fn answer(name: &[u8], b: &[u8]) {
 
 // A character of the FASC-N whose digits are all x.
 fn code_line(name: &[u8], x: u8, i: usize)
-    requires { ⌜ i < 40 ⌝ }
+    requires { ⌜ i < fascnCharacters ⌝ }
 {
-    let p = fascn::pack([x; 32]);
+    let p = fascn::pack([x; fascn::DIGITS]);
     let s = p.bytes;
     print::text(b"003 figure 7: ");
     print::text(name);
