@@ -8,7 +8,7 @@ use lib.Bits.{bitXor}
 use lib.Dec.{eqb}
 use lib.ListN.{getD}
 use Rattle.card.specs.Lists.{listOf, number, xorOf}
-use Rattle.card.specs.Fascn.{fascnBytes, fascnCharacters, fascnDigits, charBit, Piece, mark, field, order, valuesFrom, valuesOf}
+use Rattle.card.specs.Fascn.{fascnBytes, fascnCharacters, fascnDigits, charBit, Piece, startValue, separatorValue, mark, field, order, valuesFrom, valuesOf}
 
 -- What number_in asks: the n numbers from place at on lie within len, and n digits to the base fit 64 bits.
 pub record Readable (len at n base : ℕ) : Type 0 where
@@ -60,7 +60,7 @@ marksMapped f (field n ∷ ps) = field n ∷ marksMapped f ps
 
 -- The numbers e in the places of the digits, ss, fs and es in those of SS, FS and ES, and check in the last.
 unfoldable pub inOrder : List ℕ → ℕ → ℕ → ℕ → ℕ → List ℕ
-inOrder e ss fs es check = valuesFrom 0 (marksMapped (λ m. cond (eqb m 11) ss (cond (eqb m 13) fs es)) order) e ++ (check ∷ [])
+inOrder e ss fs es check = valuesFrom 0 (marksMapped (λ m. cond (eqb m startValue) ss (cond (eqb m separatorValue) fs es)) order) e ++ (check ∷ [])
 
 -- The marks among the parts ps.
 unfoldable pub marksOf : List Piece → List ℕ

@@ -72,15 +72,24 @@ pub data Piece : Type 0 where
   mark : ℕ → Piece
   field : ℕ → Piece
 
--- Start sentinel, field separator and end sentinel.
+-- Start sentinel, field separator and end sentinel: "SS is value 11, FS 13, ES 15."
+abbrev pub startValue : ℕ
+startValue = 11
+
+abbrev pub separatorValue : ℕ
+separatorValue = 13
+
+abbrev pub endValue : ℕ
+endValue = 15
+
 abbrev pub SS : Piece
-SS = mark 11
+SS = mark startValue
 
 abbrev pub FS : Piece
-FS = mark 13
+FS = mark separatorValue
 
 abbrev pub ES : Piece
-ES = mark 15
+ES = mark endValue
 
 -- The fields, each with its count of digits.
 abbrev pub agency : Piece

@@ -81,31 +81,36 @@ fn object_tag(kind: Kind) -> [u8; 3]
     }
 }
 
+// The bytes of GET DATA and of GET RESPONSE.
+const GET_DATA_BYTES: usize = 11;
+
+const GET_RESPONSE_BYTES: usize = 5;
+
 // GET DATA: 00 CB 3F FF 05 5C 03, three tag bytes, 00.
 pub fn get_data(kind: Kind, out: &mut [u8]) -> CommandAnswer
     ensures { λ r. ⌜ (commandAnswer r, now (out .exit)) ≡ getDataOf kind (now (out .entry)) ⌝ }
 {
-    if out.len() < 11 {
+    if out.len() < GET_DATA_BYTES {
         return CommandAnswer::ShortBuffer;
     }
     let tag = object_tag(kind);
     put(out, 0, b"\x00\xCB\x3F\xFF\x05\x5C\x03");
     put(out, 7, &tag);
     put(out, 10, b"\x00");
-    CommandAnswer::Written(11)
+    CommandAnswer::Written(GET_DATA_BYTES)
 }
 
 // GET RESPONSE: 00 C0 00 00, then the second status byte of the answer just taken.
 pub fn get_response(second: u8, out: &mut [u8]) -> CommandAnswer
     ensures { λ r. ⌜ (commandAnswer r, now (out .exit)) ≡ getResponseOf second (now (out .entry)) ⌝ }
 {
-    if out.len() < 5 {
+    if out.len() < GET_RESPONSE_BYTES {
         return CommandAnswer::ShortBuffer;
     }
     let last = [second];
     put(out, 0, b"\x00\xC0\x00\x00");
     put(out, 4, &last);
-    CommandAnswer::Written(5)
+    CommandAnswer::Written(GET_RESPONSE_BYTES)
 }
 
 // What a status word says: 90 00, all is sent; 61 and a byte, more is to be asked for; any other.

@@ -10,6 +10,7 @@ ghost use Rattle.card.specs.Lists.{listOf, all};
 ghost use Rattle.card.specs.Fascn.{fascnDigits, digitsIn, marksIn, decimalAt};
 ghost use Rattle.card.specs.Characters.{charOf, inOrder, checkDigits, charsOf};
 
+// The values of the start sentinel, the field separator and the end sentinel; `startValue`, `separatorValue` and `endValue` in the definitions.
 const SS: u8 = 11;
 
 const FS: u8 = 13;
