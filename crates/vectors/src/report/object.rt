@@ -154,7 +154,12 @@ fn real(s: &[u8]) {
 // The same for a name that is none of answer's.
 fn answer_object(name: &[u8], b: &[u8]) {
     if bytes::same(name, b"signed") {
-        let tags = [object::FASCN_TAG, object::GUID_TAG, object::EXPIRY_TAG, object::SIGNATURE_TAG];
+        let tags = [
+            object::FASCN_TAG,
+            object::GUID_TAG,
+            object::EXPIRY_TAG,
+            object::SIGNATURE_TAG,
+        ];
         object_of(Kind::Signed, b, &tags);
         return;
     }
