@@ -29,17 +29,21 @@ realDate n =
 
 -- ---- field 35
 
+-- "eight ASCII digits YYYYMMDD"
+abbrev pub dateDigits : ℕ
+dateDigits = 8
+
 -- Byte i of s is an ASCII digit, 30 to 39.
 unfoldable pub isDigitAt : List ℕ → ℕ → Bool
 isDigitAt s i = leb 0x30 (getD s i 0) && leb (getD s i 0) 0x39
 
 -- The number that eight ASCII digits spell: the value of each is its low four bits.
 unfoldable pub spelled : List ℕ → ℕ
-spelled s = number 10 8 (λ i. getD s i 0 % 16)
+spelled s = number 10 dateDigits (λ i. getD s i 0 % 16)
 
 -- The bytes s are a real date.
 unfoldable pub goodDate : List ℕ → Bool
-goodDate s = eqb (length s) 8 && all 8 (isDigitAt s) && realDate (spelled s)
+goodDate s = eqb (length s) dateDigits && all dateDigits (isDigitAt s) && realDate (spelled s)
 
 -- Cause 0 and the number that they spell, or cause 22 and no number (0).
 unfoldable pub dateOf : List ℕ → ℕ × ℕ

@@ -84,7 +84,7 @@ rowsOf Fingers = field fingersTag 1 862 ∷ optional endTag 0 0 ∷ []
 abbrev pub mostFields : ℕ
 mostFields = 5
 
--- The rows of an object and how many they are, filled up with rows that are none of its.
+-- How the code keeps them, no public contract cites this: the rows of an object and how many they are, filled up to the most with rows that are none of its.
 abbrev pub noRow : Row
 noRow = field 0 0 0
 

@@ -2,6 +2,9 @@
 ghost use mathlib.Core.Path.{_≡_};
 ghost use Rattle.card.specs.Date.{leapYear, daysIn, realDate, dateAnswer, dateOf};
 
+// The bytes of field 35, a digit each; `dateDigits` in the definitions.
+const DATE_DIGITS: usize = 8;
+
 // What date answers: the number YYYYMMDD, or that the bytes are no real date. `dateAnswer` gives document 01's cause of each.
 pub enum Date {
     Real(u32),
@@ -59,12 +62,12 @@ pub fn real(n: u32) -> bool
 pub fn read(s: &[u8]) -> Date
     ensures { λ r. ⌜ dateAnswer r ≡ dateOf (now (s .entry)) ⌝ }
 {
-    if s.len() != 8 {
+    if s.len() != DATE_DIGITS {
         return Date::Unreal;
     }
     let mut n: u32 = 0;
     let mut ok = true;
-    for i in 0..8 {
+    for i in 0..DATE_DIGITS {
         let b = s[i];
         ok = ok & (b'0' <= b) & (b <= b'9');
         n = n * 10 + (b % 16) as u32;

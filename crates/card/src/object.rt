@@ -14,7 +14,8 @@ pub enum Kind {
     Fingers,
 }
 
-// The tag of a data object, and those of its fields, as document 000 names them; the definitions have them under the same names, `dataObjectTag` and so on.
+// The tag of a data object, and those of its fields: the FASC-N, the GUID, the expiry date, the issuer's signature and the finger templates. In the definitions
+// they are `dataObjectTag`, `fascnTag` and so on.
 pub const DATA_OBJECT_TAG: usize = 0x53;
 
 pub const FASCN_TAG: u8 = 0x30;
@@ -36,7 +37,7 @@ pub(crate) struct Row(pub u8, pub usize, pub usize, pub bool);
 // The most fields that an object has; `mostFields` in the definitions.
 pub const FIELDS: usize = 5;
 
-// No row of an object: it fills a layout up.
+// No row of an object: it fills a layout up; `noRow` in the definitions.
 const NONE: Row = Row(0, 0, 0, false);
 
 // The first n are an object's rows.
