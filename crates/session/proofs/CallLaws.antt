@@ -12,6 +12,7 @@ use lib.Seq.{drop-drop}
 use Rattle.card.specs.Lists.{overFront}
 use Rattle.card.specs.Object.{bytesAt}
 use Rattle.card.specs.declared.object.Part.{Part}
+use Rattle.card.specs.Command.{aidMost}
 use Rattle.card.proofs.CommandLaws.{aid-most}
 use Rattle.session.specs.Tables.{objectSize, baseOf, stepRead, stepOfTag, statusSize, answerMost, dataOf, statusBytes, stampSize}
 use Rattle.session.specs.Condition.{openConditions, answerConditions, fieldRefused, stampConditions}
@@ -40,8 +41,8 @@ refuses y e f p = rw (some e f, e, p)
 
 -- ---- open
 
--- an opening that is not refused has an AID of at most 16 bytes
-pub open-fits : (mode date : ℕ) (aid : List ℕ) → openRefusal mode date aid ≡ 0 → length aid ≤ 16
+-- an opening that is not refused has an AID that is not too long
+pub open-fits : (mode date : ℕ) (aid : List ℕ) → openRefusal mode date aid ≡ 0 → length aid ≤ aidMost
 unfolding openRefusal
 open-fits mode date aid e = aid-most aid (none-fit (openConditions mode date aid) refl e .1 .1 .0)
 

@@ -9,6 +9,7 @@ use borrow.Author.Tests.{leb-true, le-leb, eqb-false}
 use lib.Dec.{eqb, leb}
 use lib.ListN.{length, take, drop, replicate}
 use lib.Seq.{take-append-seam}
+use Rattle.card.specs.Command.{aidMost}
 use Rattle.card.specs.Lists.{overFront}
 use Rattle.session.specs.Tables.{ends}
 use Rattle.session.specs.Condition.{nothingToSend, commandConditions}
@@ -21,9 +22,9 @@ use Rattle.session.proofs.Invariant.{next-same, session-of, GoodProgres
 use Rattle.session.proofs.InRangeLaws.{in-range}
 
 -- the AID is what was given, without the zeros after it
-aid-kept : (aid : List ℕ) → take (length aid) (overFront aid (replicate 16 0)) ≡ aid
+aid-kept : (aid : List ℕ) → take (length aid) (overFront aid (replicate aidMost 0)) ≡ aid
 unfolding overFront
-aid-kept aid = take-append-seam aid (drop (length aid) (replicate 16 0))
+aid-kept aid = take-append-seam aid (drop (length aid) (replicate aidMost 0))
 
 pub command-is : (r : Reading) → commandIn (session-of r) ≡ nextCommand r
 unfolding commandIn

@@ -10,7 +10,7 @@ use borrow.Author.Tests.{eqb-true, eqb-false, not-false}
 use lib.Dec.{eqb}
 use lib.ListN.{length, getD, set, take, drop, length-set}
 use lib.Seq.{getD-set-same, getD-set-other}
-use Rattle.card.specs.Object.{objectOf, fieldValue}
+use Rattle.card.specs.Object.{expiryTag, objectOf, fieldValue}
 use Rattle.card.specs.Fascn.{unpackOf}
 use Rattle.card.specs.Date.{dateOf}
 use Rattle.session.specs.Tables.{checkServed, outcomeOf, expiryOutcome, listOutcome, judgedOutcomes, hasStep2, kindAt, stepAfter, baseOf, capacity, objectSize, fascnRead, keyRead, expiryRead, objectCause, joinedCause}
@@ -54,7 +54,7 @@ one-good : (mode : ℕ) (xs cancelled : List ℕ) → Bytes xs → joinedCause m
 unfolding joinedCause objectCause
 one-good mode xs cancelled b e =
     let u = unpackOf (fascnRead mode xs) .0 in
-    let d = dateOf (fieldValue (kindAt mode 1) 0x35 xs) .0 in
+    let d = dateOf (fieldValue (kindAt mode 1) expiryTag xs) .0 in
     let c = none-fit ((20, not (eqb (objectOf (kindAt mode 1) xs .0) 0)) ∷ (21, not (eqb u 0)) ∷ (22, not (eqb d 0)) ∷ []) refl e in
     record { object = eqb-true _ 0 (not-false _ (c .0)); fascn = eqb-true u 0 (not-false _ (c .1 .0)); date = eqb-true d 0 (not-false _ (c .1 .1 .0)); bytes = b }
 

@@ -10,7 +10,7 @@ use borrow.Author.Tests.{le-leb, not-true, not-false}
 use lib.Dec.{eqb}
 use lib.ListN.{length, getD}
 use Rattle.card.specs.Tlv.{onlyFrom, onlyOf}
-use Rattle.card.specs.Object.{empty, mostFields, fieldValue, objectOf, objectFrom}
+use Rattle.card.specs.Object.{expiryTag, empty, mostFields, fieldValue, objectOf, objectFrom}
 use Rattle.card.specs.Date.{realDate}
 use Rattle.card.specs.Command.{aidRefused}
 use Rattle.card.specs.declared.object.Part.{Part}
@@ -70,7 +70,7 @@ card-in-range mode one two m a b = and-both (expiry one a) (and-both (step1 one 
   where
     expiry : (one : Option StepOne) → OneHeld mode one m → eqb (expiry-of mode one) 0 || realDate (expiry-of mode one) ≡ true
     expiry Option.none a = refl
-    expiry (Option.some f) a = rw (date-real (fieldValue (kindAt mode 1) 0x35 (f .joined)) (a .0 .date)) (or-true (eqb (expiryRead mode (f .joined)) 0))
+    expiry (Option.some f) a = rw (date-real (fieldValue (kindAt mode 1) expiryTag (f .joined)) (a .0 .date)) (or-true (eqb (expiryRead mode (f .joined)) 0))
 
     step1 : (one : Option StepOne) → OneHeld mode one m → partsInside (baseOf 1) (parts-one mode one) ≡ true
     step1 Option.none a = no-parts-in-range mode 1

@@ -6,9 +6,10 @@ use mathlib.Core.Option.{Option}
 use mathlib.Core.List.{List, []}
 use Prim.Native.Nat.{ℕ, _≤_, _<_}
 use lib.ListN.{length, take, drop, replicate}
+use Rattle.card.specs.Command.{aidMost}
 use Rattle.card.specs.Lists.{overFront}
 use Rattle.card.specs.Fascn.{unpackOf}
-use Rattle.card.specs.Object.{objectOf, fieldValue}
+use Rattle.card.specs.Object.{expiryTag, objectOf, fieldValue}
 use Rattle.card.specs.Date.{dateOf}
 use Rattle.card.specs.declared.object.Part.{Part}
 use Rattle.session.specs.Tables.{checks, goodKind, needs, checkServed, outcomeOf, verdictOutcome, expiryOutcome, listOutcome, hasStep2, kindAt, baseOf, capacity, objectSize, NextCommand, fascnRead, keyRead, expiryRead}
@@ -28,7 +29,7 @@ use Rattle.session.specs.declared.state.Next.the-variants.{Initial, GetR
 -- ---- the session that stands for a reading
 
 abbrev pub opening-of : Opening → SessionOpening
-opening-of o = record { mode = o .mode; date = o .date; aid = overFront (o .aid) (replicate 16 0); «aid_len» = length (o .aid) }
+opening-of o = record { mode = o .mode; date = o .date; aid = overFront (o .aid) (replicate aidMost 0); «aid_len» = length (o .aid) }
 
 abbrev pub next-of : NextCommand → Next
 next-of NextCommand.ofStep = Initial
@@ -76,7 +77,7 @@ pub record Held (mode step : ℕ) (xs m : List ℕ) : Type 0 where
 pub record GoodOne (mode : ℕ) (f : StepOne) : Type 0 where
   pub object : objectOf (kindAt mode 1) (f .joined) .0 ≡ 0
   pub fascn : unpackOf (fascnRead mode (f .joined)) .0 ≡ 0
-  pub date : dateOf (fieldValue (kindAt mode 1) 0x35 (f .joined)) .0 ≡ 0
+  pub date : dateOf (fieldValue (kindAt mode 1) expiryTag (f .joined)) .0 ≡ 0
   pub bytes : Bytes (f .joined)
 
 abbrev pub OneHeld : ℕ → Option StepOne → List ℕ → Type 0

@@ -9,6 +9,7 @@ use borrow.Author.Tests.{leb-true}
 use lib.Dec.{eqb, leb}
 use lib.ListN.{length, getD}
 use Rattle.card.specs.Date.{realDate}
+use Rattle.card.specs.Command.{aidLeast, aidMost, goodAid}
 use Rattle.card.specs.Object.{empty, mostFields, rowsOf, partIn}
 use Rattle.card.specs.declared.object.Kind.{Kind}
 use Rattle.card.specs.declared.object.Kind.the-variants.{Signed, Unsigned, Fingers}
@@ -34,13 +35,13 @@ groups-in-range s e = let h = and-parts _ _ e in (and-parts _ _ (h .0), and-part
 
 -- ---- single values
 
-pub aid-in-range : (s : Session) → inRange s ≡ true → (5 ≤ s .opening .«aid_len») × (s .opening .«aid_len» ≤ 16)
+pub aid-in-range : (s : Session) → inRange s ≡ true → (aidLeast ≤ s .opening .«aid_len») × (s .opening .«aid_len» ≤ aidMost)
 unfolding rangedValues
 aid-in-range s e =
     let n = s .opening .«aid_len» in
-    let fits : leb 5 n && leb n 16 ≡ true = and-parts (modeInRange (s .opening .mode) && realDate (s .opening .date)) _ (groups-in-range s e .0 .0) .1 in
-    let h = and-parts (leb 5 n) (leb n 16) fits in
-    (leb-true 5 n (h .0), leb-true n 16 (h .1))
+    let fits : goodAid n ≡ true = and-parts (modeInRange (s .opening .mode) && realDate (s .opening .date)) _ (groups-in-range s e .0 .0) .1 in
+    let h = and-parts (leb aidLeast n) (leb n aidMost) fits in
+    (leb-true aidLeast n (h .0), leb-true n aidMost (h .1))
 
 pub filled-in-range : (s : Session) → inRange s ≡ true → s .progress .filled ≤ capacity (s .opening .mode) (s .progress .step)
 unfolding rangedValues

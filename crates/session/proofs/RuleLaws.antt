@@ -9,7 +9,7 @@ use lib.Dec.{eqb, ltb}
 use Rattle.card.specs.Fascn.{unpackOf}
 use Rattle.card.specs.Tlv.{onlyOf}
 use Rattle.card.specs.Template.{templateOf, goodFrom}
-use Rattle.card.specs.Object.{objectOf, fieldValue}
+use Rattle.card.specs.Object.{expiryTag, objectOf, fieldValue}
 use Rattle.card.specs.Date.{dateOf}
 use Rattle.card.specs.declared.command.Status.{Status}
 use Rattle.session.specs.Tables.{kindAt, fascnRead, isOther, isMore, ruleCause, objectCause, joinedCause}
@@ -41,4 +41,4 @@ joined-in-range mode step joined =
     either InRange (eqb step 0) (either InRange (goodFrom (onlyOf 0x61 joined) joined) {x = 0} {y = 19} refl refl)
     (either InRange (not (eqb (objectOf (kindAt mode step) joined .0) 0)) {x = 20} refl
     (either InRange (eqb step 1 && not (eqb (unpackOf (fascnRead mode joined) .0) 0)) {x = 21} refl
-    (either InRange (eqb step 1 && not (eqb (dateOf (fieldValue (kindAt mode 1) 0x35 joined) .0) 0)) {x = 22} {y = 0} refl refl)))
+    (either InRange (eqb step 1 && not (eqb (dateOf (fieldValue (kindAt mode 1) expiryTag joined) .0) 0)) {x = 22} {y = 0} refl refl)))

@@ -11,7 +11,7 @@ use lib.ListN.{length, take}
 use lib.Seq.{length-take-le}
 use Rattle.card.specs.Lists.{overFront}
 use Rattle.card.specs.Refusal.{refusalOf}
-use Rattle.card.specs.Command.{aidRefused, tooShort, selectOf, getDataOf, getResponseOf, commandNumber, commandAnswer}
+use Rattle.card.specs.Command.{aidLeast, aidMost, aidRefused, tooShort, selectOf, getDataOf, getResponseOf, commandNumber, commandAnswer}
 use Rattle.card.specs.Command as card-command
 use Rattle.card.specs.declared.command.CommandAnswer.{CommandAnswer}
 use Rattle.card.specs.declared.command.CommandAnswer.the-variants.{Written, WrongAid, ShortBuffer}
@@ -26,13 +26,13 @@ use Rattle.session.proofs.RangesLaws.{aid-in-range}
 -- ---- the command
 
 -- the AID of a session in range is not refused
-aid-fits : (s : Session) → inRange s ≡ true → length (s .opening .aid) ≡ 16 → aidRefused (take (s .opening .«aid_len») (s .opening .aid)) ≡ false
+aid-fits : (s : Session) → inRange s ≡ true → length (s .opening .aid) ≡ aidMost → aidRefused (take (s .opening .«aid_len») (s .opening .aid)) ≡ false
 aid-fits s r l =
     let n = s .opening .«aid_len» in
     let h = aid-in-range s r in
-    rw (length-take-le n (s .opening .aid) (omega (arith, l, h .1)), le-leb 5 n (h .0), le-leb n 16 (h .1))
+    rw (length-take-le n (s .opening .aid) (omega (arith, l, h .1)), le-leb aidLeast n (h .0), le-leb n aidMost (h .1))
 
-pub select-next : (s : Session) (out : List ℕ) → inRange s ≡ true → length (s .opening .aid) ≡ 16 → s .progress .next ≡ Initial → s .progress .step ≡ 0
+pub select-next : (s : Session) (out : List ℕ) → inRange s ≡ true → length (s .opening .aid) ≡ aidMost → s .progress .next ≡ Initial → s .progress .step ≡ 0
     → selectOf (take (s .opening .«aid_len») (s .opening .aid)) out ≡ card-command.commandWritten (refusalOf ((6, tooShort out (commandIn s)) ∷ [])) (commandIn s) out
 unfolding selectOf commandIn commandBytes
 select-next s out r l e f = rw (e, f, aid-fits s r l)

@@ -11,12 +11,13 @@ use borrow.Author.Tests.{leb-true, le-leb, lt-leb}
 use lib.Dec.{leb}
 use lib.ListN.{length, getD, take, drop, length-append}
 use lib.Seq.{take-at, drop-at}
-use Rattle.card.specs.Fascn.{unpackOf}
+use Rattle.card.specs.Object.{fascnTag}
+use Rattle.card.specs.Fascn.{fascnBytes, unpackOf}
 use Rattle.card.specs.Date.{daysIn, realDate}
 use Rattle.card.specs.Command.{aidRefused}
 use Rattle.card.proofs.FascnLaws.{well-formed, unpack-pack}
 use Rattle.card.proofs.DateLaws.{date-real}
-use Rattle.session.specs.Tables.{modeInRange, fascnRead, stampSize, fourBytes, layout}
+use Rattle.session.specs.Tables.{modeInRange, fascnRead, numberSize, stampSize, fourBytes, layout}
 use Rattle.session.specs.Reading.{StepOne, Found, Reading, ownFascn}
 use Rattle.session.specs.Finding.{Finding, digitsFound, expiryFound, finding, standing, fascnStamped, expiryStamped, stampOf}
 use Rattle.session.specs.Operation.{stampHead, stampIn}
@@ -30,7 +31,7 @@ use Rattle.session.proofs.Invariant.{session-of, expiry-of, OneHeld, St
 fascn-shown : (mode : ℕ) (f : Option StepOne) (m : List ℕ) → OneHeld mode f m → fascnStamped (digitsFound mode f) ≡ ownFascn mode f
 fascn-shown mode Option.none m k = refl
 fascn-shown mode (Option.some f) m k =
-    ap (λ (p : ℕ × List ℕ). p .1) (unpack-pack (fascnRead mode (f .joined)) (λ i h. field-bytes _ 0x30 (f .joined) (k .0 .bytes) i) (k .0 .fascn))
+    ap (λ (p : ℕ × List ℕ). p .1) (unpack-pack (fascnRead mode (f .joined)) (λ i h. field-bytes _ fascnTag (f .joined) (k .0 .bytes) i) (k .0 .fascn))
 
 expiry-shown : (mode : ℕ) (f : Option StepOne) → expiryStamped (expiryFound mode f) ≡ expiry-of mode f
 expiry-shown mode Option.none = refl
@@ -68,7 +69,7 @@ has Option.none = false
 has (Option.some f) = true
 
 -- the FASC-N that is stamped has 25 bytes, and both dates fit four
-fascn-long : (mode : ℕ) (f : Option StepOne) (m : List ℕ) → OneHeld mode f m → length (ownFascn mode f) ≡ 25
+fascn-long : (mode : ℕ) (f : Option StepOne) (m : List ℕ) → OneHeld mode f m → length (ownFascn mode f) ≡ fascnBytes
 fascn-long mode Option.none m k = refl
 fascn-long mode (Option.some f) m k = well-formed (fascnRead mode (f .joined)) (k .0 .fascn) .long
 
@@ -85,7 +86,7 @@ read-by step f (Stage.late l x e) = ap has e ∙ sym (le-leb 2 step (omega arith
 date-small : (r : Reading) (m : List ℕ) → Invariant r m → r .opening .date < 2 ^ 32
 date-small r m i = real-small (r .opening .date) (and-right (modeInRange (r .opening .mode)) _ (and-left _ (not (aidRefused (r .opening .aid))) (i .opening)))
 
-layout-length : (a o f : List ℕ) (d x : ℕ) → length (layout a o d f x) ≡ length a + length o + 4 + length f + 4
+layout-length : (a o f : List ℕ) (d x : ℕ) → length (layout a o d f x) ≡ length a + length o + numberSize + length f + numberSize
 unfolding layout
 layout-length a o f d x = simp length-append
 

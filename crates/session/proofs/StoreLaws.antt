@@ -23,12 +23,13 @@ pub front-all : (s l : List ℕ) → length l ≤ length s → overFront s l ≡
 unfolding overFront
 front-all s l h = rw (drop-of-length-le l h, append-nil)
 
--- five lists stored one after another stand in front: those of a stamp
-pub stored-five : (a b c e f d : List ℕ) {l1 l2 l3 l4 l5 : List ℕ} → length a ≡ 6 → length b ≡ 6 → length c ≡ 4 → length e ≡ 25
-    → l1 ≡ overPlaces d 0 a → l2 ≡ overPlaces l1 6 b → l3 ≡ overPlaces l2 12 c → l4 ≡ overPlaces l3 16 e → l5 ≡ overPlaces l4 41 f → l5 ≡ overFront ((((a ++ b) ++ c) ++ e) ++ f) d
-stored-five a b c e f d ha hb hc he p1 p2 p3 p4 p5 =
+-- five lists stored one after another, each where those before it end, stand in front: those of a stamp
+pub stored-five : (a b c e f d : List ℕ) {l1 l2 l3 l4 l5 : List ℕ} {n2 n3 n4 n5 : ℕ} → n2 ≡ length a → n3 ≡ n2 + length b → n4 ≡ n3 + length c → n5 ≡ n4 + length e
+    → l1 ≡ overPlaces d 0 a → l2 ≡ overPlaces l1 n2 b → l3 ≡ overPlaces l2 n3 c → l4 ≡ overPlaces l3 n4 e → l5 ≡ overPlaces l4 n5 f
+    → l5 ≡ overFront ((((a ++ b) ++ c) ++ e) ++ f) d
+stored-five a b c e f d h2 h3 h4 h5 p1 p2 p3 p4 p5 =
     let q1 = p1 ∙ stored-first d a in
-    let q2 = p2 ∙ stored-next a b d q1 (sym ha) in
+    let q2 = p2 ∙ stored-next a b d q1 h2 in
     let q3 = p3 ∙ stored-next (a ++ b) c d q2 (omega (arith, length-append a b)) in
     let q4 = p4 ∙ stored-next ((a ++ b) ++ c) e d q3 (omega (arith, length-append a b, length-append (a ++ b) c)) in
     p5 ∙ stored-next (((a ++ b) ++ c) ++ e) f d q4 (omega (arith, length-append a b, length-append (a ++ b) c, length-append ((a ++ b) ++ c) e))

@@ -8,7 +8,7 @@ use mathlib.Core.List.{List, [], _∷_}
 use Prim.Native.Nat.{ℕ, _≤_}
 use lib.Dec.{eqb}
 use lib.ListN.{replicate}
-use Rattle.card.specs.Fascn.{packOf}
+use Rattle.card.specs.Fascn.{fascnBytes, packOf}
 use Rattle.session.specs.Tables.{needs, goodKind, checkServed, causeOf, allPassed, standingOf, listed, fascnRead, digitsRead, keyRead, expiryRead, headOf, layout}
 use Rattle.session.specs.Reading.{StepOne, Verdict, Reading}
 
@@ -54,7 +54,7 @@ standing f = standingOf (f .mode) (f .step) (f .cause) (f .outcomes)
 
 -- "FASC-N (25, zeros if absent), expiry likewise"
 abbrev pub fascnStamped : Option (List ℕ) → List ℕ
-fascnStamped Option.none = replicate 25 0
+fascnStamped Option.none = replicate fascnBytes 0
 fascnStamped (Option.some digits) = packOf digits .1
 
 abbrev pub expiryStamped : Option ℕ → ℕ

@@ -8,7 +8,8 @@ use lib.ListN.{length, getD, take, drop, replicate}
 use Rattle.card.specs.Lists.{overFront, overPlaces}
 use Rattle.card.specs.Refusal.{refusalOf}
 use Rattle.card.specs.Object.{empty, mostFields, rowsOf, objectOf, partIn, bytesAt}
-use Rattle.card.specs.Command.{statusOf}
+use Rattle.card.specs.Fascn.{fascnBytes}
+use Rattle.card.specs.Command.{aidMost, statusOf}
 use Rattle.card.specs.declared.object.Part.{Part}
 use Rattle.card.specs.declared.command.Status.{Status}
 use Rattle.card.specs.declared.command.Status.the-variants.{Done, More, Other}
@@ -65,18 +66,18 @@ abbrev pub noParts : List Part
 noParts = replicate mostFields empty
 
 abbrev pub noCard : Card
-noCard = record { fascn = replicate 25 0; expiry = 0; step1 = noParts; step2 = noParts }
+noCard = record { fascn = replicate fascnBytes 0; expiry = 0; step1 = noParts; step2 = noParts }
 
 -- "a dead session, all zeros"
 abbrev pub dead : Session
 dead =
-    record { opening = record { mode = 0; date = 0; aid = replicate 16 0; «aid_len» = 0 }; progress = progressAtStep 0; outcomes = replicate checks 0; card = noCard }
+    record { opening = record { mode = 0; date = 0; aid = replicate aidMost 0; «aid_len» = 0 }; progress = progressAtStep 0; outcomes = replicate checks 0; card = noCard }
 
 -- The session that an accepted opening gives; the AID is kept with zeros after it.
 unfoldable pub opened : ℕ → ℕ → List ℕ → Session
 opened mode date aid =
     record {
-      opening = record { mode = mode; date = date; aid = overFront aid (replicate 16 0); «aid_len» = length aid };
+      opening = record { mode = mode; date = date; aid = overFront aid (replicate aidMost 0); «aid_len» = length aid };
       progress = progressAtStep 0;
       outcomes = neededOutcomes mode;
       card = noCard;

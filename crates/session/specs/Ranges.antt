@@ -7,6 +7,7 @@ use lib.Dec.{eqb, leb}
 use lib.ListN.{getD}
 use Rattle.card.specs.Lists.{all}
 use Rattle.card.specs.Date.{realDate}
+use Rattle.card.specs.Command.{goodAid}
 use Rattle.card.specs.Object.{empty, mostFields}
 use Rattle.card.specs.declared.object.Part.{Part}
 use Rattle.session.specs.Tables.{checks, otherCard, modeInRange, ends, hasStep2, baseOf, capacity, objectSize}
@@ -15,7 +16,7 @@ use Rattle.session.specs.declared.range.Values.{Values}
 
 -- "mode 1–4", "opening date real", "AID length 5–16"
 abbrev pub openingInRange : ℕ → ℕ → ℕ → Bool
-openingInRange mode date aidLength = (modeInRange mode && realDate date) && (leb 5 aidLength && leb aidLength 16)
+openingInRange mode date aidLength = (modeInRange mode && realDate date) && goodAid aidLength
 
 -- "step 0–3 (2 only in modes 3 and 4)"
 abbrev pub stepInRange : ℕ → ℕ → Bool

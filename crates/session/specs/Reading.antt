@@ -8,6 +8,7 @@ use Prim.Native.Nat.{ℕ, _+_}
 use lib.Dec.{eqb}
 use lib.ListN.{length, getD, replicate}
 use Rattle.card.specs.Refusal.{refusalOf}
+use Rattle.card.specs.Fascn.{fascnBytes}
 use Rattle.card.specs.Object.{fieldValue}
 use Rattle.card.specs.Command.{statusOf}
 use Rattle.card.specs.declared.command.Status.{Status}
@@ -164,7 +165,7 @@ answerTaken r bytes status cancelled =
 
 -- Step 1's FASC-N; zeros before its good end.
 abbrev pub ownFascn : ℕ → Option StepOne → List ℕ
-ownFascn mode Option.none = replicate 25 0
+ownFascn mode Option.none = replicate fascnBytes 0
 ownFascn mode (Option.some f) = fascnRead mode (f .joined)
 
 unfoldable pub verdictRefused : Reading → ℕ → ℕ → List ℕ → ℕ

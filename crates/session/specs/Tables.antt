@@ -8,9 +8,9 @@ use lib.Dec.{eqb, ltb, leb}
 use lib.ListN.{length, getD, set, take, drop}
 use Rattle.card.specs.Lists.{listOf, all, sameBytes}
 use Rattle.card.specs.Refusal.{refusalOf}
-use Rattle.card.specs.Fascn.{unpackOf, keyOf}
+use Rattle.card.specs.Fascn.{fascnBytes, unpackOf, keyOf}
 use Rattle.card.specs.Template.{templateOf}
-use Rattle.card.specs.Object.{objectOf, fieldValue}
+use Rattle.card.specs.Object.{fascnTag, guidTag, expiryTag, signatureTag, fingersTag, objectOf, fieldValue}
 use Rattle.card.specs.Date.{dateOf}
 use Rattle.card.specs.Command.{selectBytes, getDataBytes, getResponseBytes, statusOf}
 use Rattle.card.specs.declared.object.Kind.{Kind}
@@ -185,10 +185,10 @@ stepRead mode step k = ltb k step && (not (eqb k 2) || hasStep2 mode)
 
 -- The tags that a field call may ask for: 30, 34, 35, 3E of step 1's object, BC of step 2's.
 abbrev pub step1Tags : List ℕ
-step1Tags = 0x30 ∷ 0x34 ∷ 0x35 ∷ 0x3E ∷ []
+step1Tags = fascnTag ∷ guidTag ∷ expiryTag ∷ signatureTag ∷ []
 
 abbrev pub step2Tags : List ℕ
-step2Tags = 0xBC ∷ []
+step2Tags = fingersTag ∷ []
 
 -- The step whose object has the field with such a tag; 0 for another tag.
 unfoldable pub stepOfTag : ℕ → ℕ
@@ -247,7 +247,7 @@ statusShown cause sw = cond (eqb cause statusCause) sw 0
 
 -- The FASC-N, its digits and key, and the expiry in the joined data of step 1.
 abbrev pub fascnRead : ℕ → List ℕ → List ℕ
-fascnRead mode joined = fieldValue (kindAt mode 1) 0x30 joined
+fascnRead mode joined = fieldValue (kindAt mode 1) fascnTag joined
 
 abbrev pub digitsRead : ℕ → List ℕ → List ℕ
 digitsRead mode joined = unpackOf (fascnRead mode joined) .1
@@ -256,7 +256,7 @@ abbrev pub keyRead : ℕ → List ℕ → ℕ
 keyRead mode joined = keyOf (digitsRead mode joined)
 
 abbrev pub expiryRead : ℕ → List ℕ → ℕ
-expiryRead mode joined = dateOf (fieldValue (kindAt mode 1) 0x35 joined) .1
+expiryRead mode joined = dateOf (fieldValue (kindAt mode 1) expiryTag joined) .1
 
 -- "Step 1's good end sets check 3 and check 4", by its joined data.
 abbrev pub judgedOutcomes : ℕ → ℕ → List ℕ → List ℕ → List ℕ → List ℕ
@@ -270,7 +270,7 @@ objectCause mode step joined =
     refusalOf
     ((malformedCause, not (eqb (objectOf (kindAt mode step) joined .0) 0))
     ∷ (fascnCause, eqb step 1 && not (eqb (unpackOf (fascnRead mode joined) .0) 0))
-    ∷ (dateCause, eqb step 1 && not (eqb (dateOf (fieldValue (kindAt mode 1) 0x35 joined) .0) 0))
+    ∷ (dateCause, eqb step 1 && not (eqb (dateOf (fieldValue (kindAt mode 1) expiryTag joined) .0) 0))
     ∷ [])
 
 unfoldable pub joinedCause : ℕ → ℕ → List ℕ → ℕ
@@ -283,8 +283,14 @@ abbrev pub fourBytes : ℕ → List ℕ
 fourBytes n = n / 16777216 % 256 ∷ n / 65536 % 256 ∷ n / 256 % 256 ∷ n % 256 ∷ []
 
 -- "Stamp, 45 bytes: mode, standing, cause, status word (2 bytes), step, outcomes (6), opening date as a number, high byte first (4), FASC-N (25), expiry likewise (4)."
+abbrev pub headSize : ℕ
+headSize = 6
+
+abbrev pub numberSize : ℕ
+numberSize = 4
+
 unfoldable pub stampSize : ℕ
-stampSize = 6 + checks + 4 + 25 + 4
+stampSize = headSize + checks + numberSize + fascnBytes + numberSize
 
 abbrev pub headOf : ℕ → ℕ → ℕ → ℕ → ℕ → ℕ → List ℕ
 headOf mode standing cause sw1 sw2 step = mode ∷ standing ∷ cause ∷ sw1 ∷ sw2 ∷ step ∷ []

@@ -1,4 +1,5 @@
 // Document 01's figures, each once. A figure that the definitions name stands in specs/Tables.antt under the name given here.
+use card::fascn::FASCN_BYTES;
 
 // "Modes 1 to 4 are built": `greatestMode`. "Verdict kinds 1, 2, 3, 4": `greatestKind`.
 pub(crate) const MODES: u8 = 4;
@@ -51,8 +52,7 @@ pub(crate) const STATUS: usize = 2;
 
 pub(crate) const ANSWER_MOST: usize = 258;
 
-// The bytes of a FASC-N, of a number in the stamp, and of the stamp's head: mode, standing, cause, status word and step.
-pub(crate) const FASCN: usize = 25;
+// The bytes of a number in the stamp, and of the stamp's head, that is mode, standing, cause, status word and step: `numberSize`, `headSize`.
 
 pub(crate) const NUMBER: usize = 4;
 
@@ -65,6 +65,6 @@ pub(crate) const DATE_AT: usize = OUTCOMES_AT + CHECKS;
 
 pub(crate) const FASCN_AT: usize = DATE_AT + NUMBER;
 
-pub(crate) const EXPIRY_AT: usize = FASCN_AT + FASCN;
+pub(crate) const EXPIRY_AT: usize = FASCN_AT + FASCN_BYTES;
 
 pub const STAMP: usize = EXPIRY_AT + NUMBER;

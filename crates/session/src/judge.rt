@@ -15,6 +15,8 @@ use card::date::Date;
 use card::fascn;
 use card::fascn::Key;
 use card::object;
+use card::object::EXPIRY_TAG;
+use card::object::FASCN_TAG;
 use card::object::FIELDS;
 use card::object::Kind;
 use card::object::Part;
@@ -117,13 +119,13 @@ impl Session {
     {
         let opening = self.opening;
         let kind = tables::kind_at(opening.mode, 1);
-        let bytes = value(kind, parts, joined, 0x30);
+        let bytes = value(kind, parts, joined, FASCN_TAG);
         let unpacked = fascn::unpack(bytes);
         let well = unpacked.answer;
         if well.number() != 0 {
             return self.stopped(joined.len(), FASCN_CAUSE, 0, 0);
         }
-        let date = date::read(value(kind, parts, joined, 0x35));
+        let date = date::read(value(kind, parts, joined, EXPIRY_TAG));
         if date.number() != 0 {
             return self.stopped(joined.len(), DATE_CAUSE, 0, 0);
         }

@@ -1,6 +1,5 @@
 // Open: a session from mode, date and AID.
 use crate::figures::CHECKS;
-use crate::figures::FASCN;
 use crate::progress;
 use crate::state::Answered;
 use crate::state::Card;
@@ -9,12 +8,16 @@ use crate::state::Session;
 use crate::state::SessionOpening;
 use crate::store;
 use crate::tables;
+use card::command;
+use card::command::AID_MOST;
 use card::date;
+use card::fascn::FASCN_BYTES;
 use card::object::FIELDS;
 use card::object::Part;
 ghost use mathlib.Core.Path.{_≡_};
 ghost use Prim.Native.Nat.{_≤_};
 ghost use lib.ListN.{length};
+ghost use Rattle.card.specs.Command.{aidMost};
 ghost use Rattle.session.specs.Operation.{replyNumber, given, noCard, dead, opened, openRefusal, openOf};
 ghost use Rattle.session.specs.Promise.{OpenPromise};
 
@@ -24,7 +27,7 @@ fn no_card() -> Card
     ensures { λ r. ⌜ r ≡ noCard ⌝ }
 {
     Card {
-        fascn: [0; FASCN],
+        fascn: [0; FASCN_BYTES],
         expiry: 0,
         step1: [EMPTY; FIELDS],
         step2: [EMPTY; FIELDS],
@@ -38,7 +41,7 @@ pub fn dead_session() -> Session
     let opening = SessionOpening {
         mode: 0,
         date: 0,
-        aid: [0; 16],
+        aid: [0; AID_MOST],
         aid_len: 0,
     };
     let progress = progress::at_step(0);
@@ -60,15 +63,14 @@ fn open_refusal(mode: u8, date: u32, aid: &[u8]) -> Reply
     if !date::real(date) {
         return Reply::UnrealDate;
     }
-    let n = aid.len();
-    if !((5 <= n) & (n <= 16)) {
+    if !command::good_aid(aid.len()) {
         return Reply::WrongAid;
     }
     Reply::Accepted
 }
 
 fn opened(mode: u8, date: u32, aid: &[u8]) -> Session
-    requires { ⌜ length (now aid) ≤ 16 ⌝ }
+    requires { ⌜ length (now aid) ≤ aidMost ⌝ }
     ensures { λ r. ⌜ r ≡ opened mode date (now (aid .entry)) ⌝ }
 {
     let bytes = store::array_aid(aid);

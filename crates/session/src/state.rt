@@ -1,6 +1,7 @@
 // The session's values, by groups, and the answers of its calls.
 use crate::figures::CHECKS;
-use crate::figures::FASCN;
+use card::command::AID_MOST;
+use card::fascn::FASCN_BYTES;
 use card::object::FIELDS;
 use card::object::Part;
 ghost use mathlib.Core.Path.{_≡_};
@@ -16,7 +17,7 @@ pub enum Next {
 pub struct SessionOpening {
     pub mode: u8,
     pub date: u32,
-    pub aid: [u8; 16],
+    pub aid: [u8; AID_MOST],
     pub aid_len: usize,
 }
 
@@ -34,7 +35,7 @@ pub struct SessionProgress {
 
 // What steps 1 and 2 gave: FASC-N and expiry (0 before step 1's good end), and where the fields of each step's object lie in the step's data.
 pub struct Card {
-    pub fascn: [u8; FASCN],
+    pub fascn: [u8; FASCN_BYTES],
     pub expiry: u32,
     pub step1: [Part; FIELDS],
     pub step2: [Part; FIELDS],

@@ -14,7 +14,12 @@ use crate::figures::REJECTED;
 use crate::figures::STATUS_CAUSE;
 use crate::figures::STEP_2_BASE;
 use crate::figures::UNNEEDED;
+use card::object::EXPIRY_TAG;
+use card::object::FASCN_TAG;
+use card::object::FINGERS_TAG;
+use card::object::GUID_TAG;
 use card::object::Kind;
+use card::object::SIGNATURE_TAG;
 ghost use mathlib.Core.Path.{_≡_};
 ghost use Prim.Native.Nat.{_≤_, _<_};
 ghost use Rattle.session.specs.Tables.{checks, modeInRange, modeOpens, goodKind, needs, checkServed, neededAt, neededOutcomes, outcomeOf, withOutcome, lowestFrom, causeOf, allPassed, standingOf, ends, hasStep2, kindAt, stepAfter, baseOf, capacity, stepRead, stepOfTag};
@@ -214,8 +219,8 @@ pub(crate) fn step_read(mode: u8, step: u8, k: u8) -> bool
 pub(crate) fn step_of_tag(tag: u8) -> u8
     ensures { λ r. ⌜ r ≡ stepOfTag tag ⌝ }
 {
-    if (tag == 0x30) | (tag == 0x34) | (tag == 0x35) | (tag == 0x3E) {
+    if (tag == FASCN_TAG) | (tag == GUID_TAG) | (tag == EXPIRY_TAG) | (tag == SIGNATURE_TAG) {
         return 1;
     }
-    if tag == 0xBC { 2 } else { 0 }
+    if tag == FINGERS_TAG { 2 } else { 0 }
 }

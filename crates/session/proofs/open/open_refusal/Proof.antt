@@ -14,11 +14,11 @@ returns-2 c = rw (← c .before .before .before .mode-opens .ensures, c .before 
 
 returns-3 : tie.Need-returns-3
 unfolding openRefusal
-returns-3 c = rw (← c .before .before .before .before .mode-opens .ensures, c .before .before .before .if1 .left, ← c .before .before .real .ensures, c .before .if2 .left, c .if3 .taken)
+returns-3 c = rw (← c .before .before .before .before .before .mode-opens .ensures, c .before .before .before .before .if1 .left, ← c .before .before .before .real .ensures, c .before .before .if2 .left, ← c .before .good-aid .ensures, c .if3 .taken)
 
 returns-4 : tie.Need-returns-4
 unfolding openRefusal
-returns-4 c = rw (← c .before .before .before .before .mode-opens .ensures, c .before .before .before .if1 .left, ← c .before .before .real .ensures, c .before .if2 .left, c .if3 .left)
+returns-4 c = rw (← c .before .before .before .before .before .mode-opens .ensures, c .before .before .before .before .if1 .left, ← c .before .before .before .real .ensures, c .before .before .if2 .left, ← c .before .good-aid .ensures, c .if3 .left)
 
 pub open-refusal-spec : {M : Type 1} → statement M
-open-refusal-spec = tie.close (tie.spec (λ c κs. search needs) returns (λ c κs. search needs) returns-2 returns-3 returns-4)
+open-refusal-spec = tie.close (tie.spec (λ c κs. search needs) returns (λ c κs. search needs) returns-2 (λ c κs. search needs) returns-3 returns-4)

@@ -3,12 +3,13 @@ use borrow.Author.Needs.{needs}
 use native.Mathlib.Omega.{arith}
 use mathlib.Core.Path.{_∙_}
 use lib.ListN.{replicate}
+use Rattle.card.specs.Fascn.{fascnBytes}
 use Rattle.session.proofs.StoreLaws.{front-all}
 use Rattle.session.proofs.store.array_fascn.Statement.{statement}
 use Rattle.session.proofs.store.array_fascn.Tie as tie
 
 returns : tie.Need-returns
-returns c = c .before .put .ensures ∙ front-all (c .before .before .before .before .args .s .now) (replicate 25 0) (omega arith)
+returns c = c .before .put .ensures ∙ front-all (c .before .before .before .before .args .s .now) (replicate fascnBytes 0) (omega arith)
 
 pub array-fascn-spec : {M : Type 1} → statement M
 array-fascn-spec = tie.close (tie.spec (λ c. search needs) (λ c κs. search needs) returns)

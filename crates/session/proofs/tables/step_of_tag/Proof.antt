@@ -4,12 +4,13 @@ use mathlib.Core.Bool.{_||_, or-false, or-assoc}
 use Prim.Native.Nat.{ℕ}
 use borrow.Author.Tests.{eq-eqb, ne-eqb}
 use lib.Dec.{eqb}
+use Rattle.card.specs.Object.{fascnTag, guidTag, expiryTag, signatureTag}
 use Rattle.session.specs.Tables.{isIn, step1Tags, stepOfTag}
 use Rattle.session.proofs.tables.step_of_tag.Statement.{statement}
 use Rattle.session.proofs.tables.step_of_tag.Tie as tie
 
 -- the tags of step 1, as code and definition group their tests
-step1-tags : (x : ℕ) → (((eqb x 0x30 || eqb x 0x34) || eqb x 0x35) || eqb x 0x3E) ≡ isIn x step1Tags
+step1-tags : (x : ℕ) → (((eqb x fascnTag || eqb x guidTag) || eqb x expiryTag) || eqb x signatureTag) ≡ isIn x step1Tags
 step1-tags x = simp (or-assoc, or-false)
 
 returns : tie.Need-returns

@@ -6,9 +6,9 @@ use Rattle.session.proofs.range.Values.out_of_range.Tie as tie
 
 returns : tie.Need-returns
 unfolding valuesInRange
-returns c = rw (c .before .before .before .before .before .before .before .before .before .before .before .before .before .before .before .before .mode-in-range .ensures, c .before .before .before .before .before .before .before .before .before .before .before .before .before .before .before .real .ensures, c .before .before .before .before .before .before .before .before .before .before .before .ends .ensures, c .before .before .before .before .before .before .before .before .has-step2 .ensures, c .before .before .before .before .capacity .ensures, c .before .before .expiry-in-range .ensures, c .outcomes-in-range .ensures)
+returns c = rw (c .before .before .before .before .before .before .before .before .before .before .before .before .before .before .before .mode-in-range .ensures, c .before .before .before .before .before .before .before .before .before .before .before .before .before .before .real .ensures, c .before .before .before .before .before .before .before .before .before .before .before .before .before .good-aid .ensures, c .before .before .before .before .before .before .before .before .before .before .before .ends .ensures, c .before .before .before .before .before .before .before .before .has-step2 .ensures, c .before .before .before .before .capacity .ensures, c .before .before .expiry-in-range .ensures, c .outcomes-in-range .ensures)
 
 pub out-of-range-spec : {M : Type 1} → statement M
 out-of-range-spec =
     tie.close
-    (tie.spec (λ c κs. search needs) (λ c κs. search needs) (λ c κs. search needs) (λ c κs. search needs) (λ c κs. search needs) (λ c κs. search needs) (λ c κs. search needs) returns)
+    (tie.spec (λ c κs. search needs) (λ c κs. search needs) (λ c κs. search needs) (λ c κs. search needs) (λ c κs. search needs) (λ c κs. search needs) (λ c κs. search needs) (λ c κs. search needs) returns)

@@ -6,7 +6,7 @@ use borrow.Author.Needs.{needs}
 use denote.Ref.{now}
 use Rattle.card.specs.Fascn.{unpackOf, unpacked, keyOf}
 use Rattle.card.specs.Date.{dateOf, dateAnswer}
-use Rattle.card.specs.Object.{fieldValue}
+use Rattle.card.specs.Object.{expiryTag, fieldValue}
 use Rattle.card.proofs.FascnLaws.{well-formed}
 use Rattle.session.specs.Tables.{kindAt, fascnRead, keyRead, expiryRead}
 use Rattle.session.specs.Operation.{goodEndSession}
@@ -24,10 +24,10 @@ unpacked-is c = c .unpack .ensures ∙ ap unpackOf (bytes-is (c .before))
 number-is : (c : tie.After-number) → let a = c .before .before .before .before .before .before .before .args in c .number .result ≡ unpackOf (fascnRead (a .self .opening .mode) (a .joined .now)) .0
 number-is c = c .number .ensures ∙ ap (λ (p : ℕ × List ℕ). p .0) (unpacked-is (c .before))
 
-date-is : (c : tie.After-read) → let a = c .before .before .before .before .before .before .before .before .before .before .args in dateAnswer (c .read .result) ≡ dateOf (fieldValue (kindAt (a .self .opening .mode) 1) 0x35 (a .joined .now))
+date-is : (c : tie.After-read) → let a = c .before .before .before .before .before .before .before .before .before .before .args in dateAnswer (c .read .result) ≡ dateOf (fieldValue (kindAt (a .self .opening .mode) 1) expiryTag (a .joined .now))
 date-is c = rw (← c .before .before .before .before .before .before .kind-at .ensures, ← c .before .value2 .ensures) (c .read .ensures)
 
-date-number-is : (c : tie.After-number2) → let a = c .before .before .before .before .before .before .before .before .before .before .before .args in c .number2 .result ≡ dateOf (fieldValue (kindAt (a .self .opening .mode) 1) 0x35 (a .joined .now)) .0
+date-number-is : (c : tie.After-number2) → let a = c .before .before .before .before .before .before .before .before .before .before .before .args in c .number2 .result ≡ dateOf (fieldValue (kindAt (a .self .opening .mode) 1) expiryTag (a .joined .now)) .0
 date-number-is c = c .number2 .ensures ∙ ap (λ (p : ℕ × ℕ). p .0) (date-is (c .before))
 
 expiry-is : (c : tie.After-date-number) → let a = c .before .before .before .before .before .before .before .before .before .before .before .before .before .args in c .date-number .result ≡ expiryRead (a .self .opening .mode) (a .joined .now)

@@ -1,16 +1,17 @@
 -- `session::state::Session::write_stamp` meets its contract: each store lengthens the front. Assumes nothing.
 use borrow.Author.Needs.{needs}
-use mathlib.Core.Path.{_≡_, refl, ap, _∙_}
+use mathlib.Core.Path.{_≡_, refl, sym, ap, _∙_}
+use native.Mathlib.Omega.{arith}
 use lib.ListN.{length}
 use Rattle.session.proofs.StoreLaws.{stored-five}
-use Rattle.session.specs.Tables.{layout, stampSize}
+use Rattle.session.specs.Tables.{headSize, layout, stampSize}
 use Rattle.session.specs.Operation.{stampHead, stampIn}
 use Rattle.session.specs.declared.state.Session.{Session}
 use Rattle.session.proofs.state.Session.write_stamp.Statement.{statement}
 use Rattle.session.proofs.state.Session.write_stamp.Tie as tie
 
--- the first store: six bytes
-head-length : (s : Session) → length (stampHead s) ≡ 6
+-- the first store
+head-length : (s : Session) → length (stampHead s) ≡ headSize
 unfolding stampHead
 head-length s = refl
 
@@ -29,7 +30,8 @@ returns c =
     let a = first .before .before .args in
     rw (← head .ensures, ← date .ensures, ← expiry .ensures)
     (stored-five (head .result) (a .self .outcomes) (date .result) (a .self .card .fascn) (expiry .result) (a .out .now)
-    (ap length (head .ensures) ∙ head-length (a .self)) (sizes .before .sized-outcomes .ensures) (ap length (date .ensures)) (sizes .sized-fascn .ensures)
+    (sym (ap length (head .ensures) ∙ head-length (a .self))) (omega (arith, sizes .before .sized-outcomes .ensures)) (omega (arith, ap length (date .ensures)))
+    (omega (arith, sizes .sized-fascn .ensures))
     (at1 .store .ensures) (at2 .store2 .ensures) (at3 .store3 .ensures) (at4 .store4 .ensures) (c .before .before .store5 .ensures))
 
 pub write-stamp-spec : {M : Type 1} → statement M
