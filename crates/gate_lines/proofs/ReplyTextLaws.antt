@@ -8,10 +8,11 @@ use native.Mathlib.Omega.{arith}
 use lib.ListN.{length, take, length-append, length-drop}
 use lib.Seq.{take-at, length-take-le}
 use Rattle.card.specs.Lists.{overPlaces, written}
+use Rattle.session.specs.Tables.{stampSize}
 use Rattle.session.proofs.StoreLaws.{front-all}
 use Rattle.text.specs.Hex.{hexDigitAt, hexOf}
 use Rattle.text.proofs.HexLaws.{length-hex, front-hex}
-use Rattle.gate_lines.specs.Gate.{textIn, TextFits}
+use Rattle.gate_lines.specs.Gate.{textIn, textSize, TextFits}
 use Rattle.gate_lines.specs.declared.state.Text.{Text}
 
 -- ---- bytes stored after the first n
@@ -29,12 +30,17 @@ length-stored b s n h = rw (length-append, length-kept b s n h, length-drop) (om
 
 -- ---- a text made of parts
 
+-- the text of a refusal has at most 14 bytes, and fits
+pub text-room : 14 ≤ textSize
+unfolding textSize stampSize
+text-room = omega arith
+
 -- what an empty text tells, and a text with s after it
 abbrev pub Empty : Text → Type 0
 Empty t = (textIn t ≡ []) × TextFits t 0
 
 abbrev pub Grown : Text → List ℕ → Text → Type 0
-Grown t s r = (textIn r ≡ textIn t ++ s) × ((length (r .bytes) ≡ 99) × (r .len ≡ t .len + length s))
+Grown t s r = (textIn r ≡ textIn t ++ s) × ((length (r .bytes) ≡ textSize) × (r .len ≡ t .len + length s))
 
 pub no-bytes : (t : Text) → Empty t → t .len ≡ 0
 no-bytes t e = sym (length-take-le (t .len) (t .bytes) (omega arith)) ∙ ap length (e .0)

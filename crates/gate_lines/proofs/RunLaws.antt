@@ -161,8 +161,9 @@ run-reaches object ls = lines-reach ls (fresh object) Since.none refl
 
 -- ---- what is printed at the end
 
--- a stamp call on the session of a history, with a buffer of 45 bytes
+-- a stamp call on the session of a history, with a buffer of a stamp's size
 stamp-of : (h : History) → (stampAnswer (finish h .session) stampSize .0 ≡ 0) × (stampBuffer (finish h .session) (replicate stampSize 0) ≡ stampOf (finding (readingOf h)))
+unfolding stampSize
 stamp-of h =
     let p = promise h in
     let a = reached h in

@@ -3,9 +3,10 @@
 use mathlib.Core.Path.{_≡_}
 use mathlib.Core.Bool.{Bool, cond}
 use mathlib.Core.List.{List, [], _∷_, _++_}
-use Prim.Native.Nat.{ℕ, _+_, _/_, _%_, _≤_}
+use Prim.Native.Nat.{ℕ, _+_, _*_, _/_, _%_, _≤_}
 use lib.Dec.{eqb, ltb}
 use lib.ListN.{length, set, take, drop, replicate}
+use Rattle.card.specs.Command.{aidMost}
 use Rattle.text.specs.Hex.{hexOf}
 use Rattle.session.specs.Tables.{stampSize}
 use Rattle.session.specs.Operation.{dead, openOf, commandOf, answerOf, answerBuffer, verdictOf, stampAnswer, stampBuffer}
@@ -41,9 +42,9 @@ mostCards = 1024
 abbrev pub hasRoom : Gate → Bool
 hasRoom g = ltb (length (g .keys)) mostCards
 
--- The size of the buffer lent to a command call: SELECT with 16 bytes of AID is the longest command.
+-- The size of the buffer lent to a command call: SELECT with the longest AID is the longest command.
 abbrev pub commandRoom : ℕ
-commandRoom = 22
+commandRoom = aidMost + 6
 
 -- "Before each answer it makes the command call itself"
 abbrev pub commanded : Gate → Session
@@ -90,10 +91,6 @@ cardsAfter st cards GateLine.bad = (st .cards, cards)
 abbrev pub textIn : Text → List ℕ
 textIn t = take (t .len) (t .bytes)
 
--- A text has room for n bytes more.
-abbrev pub TextFits : Text → ℕ → Type 0
-TextFits t n = (length (t .bytes) ≡ 99) × (t .len + n ≤ 99)
-
 -- A number below 1,000 in decimal: its three digits without the zeros in front.
 abbrev pub digit : ℕ → ℕ
 digit x = 48 + x % 10
@@ -126,6 +123,14 @@ stampOpens = 0x28 ∷ 0x73 ∷ 0x74 ∷ 0x61 ∷ 0x6D ∷ 0x70 ∷ 0x20 ∷ []
 
 unfoldable pub stampText : List ℕ → List ℕ
 stampText stamp = stampOpens ++ hexOf stamp ++ closing
+
+-- The most that is printed at once: the text of a stamp.
+unfoldable pub textSize : ℕ
+textSize = length stampOpens + 2 * stampSize + length closing
+
+-- A text has room for n bytes more.
+abbrev pub TextFits : Text → ℕ → Type 0
+TextFits t n = (length (t .bytes) ≡ textSize) × (t .len + n ≤ textSize)
 
 -- "at the end `(stamp HEX)`, or `(refused 4)` if no session is open"
 unfoldable pub endText : Session → List ℕ

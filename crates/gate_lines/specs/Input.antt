@@ -7,7 +7,7 @@ use lib.Dec.{eqb, ltb}
 use lib.ListN.{length, getD, take, drop}
 use Rattle.card.specs.Lists.{written}
 use Rattle.text.specs.Place.{countBefore}
-use Rattle.gate_lines.specs.Line.{lineIn}
+use Rattle.gate_lines.specs.Line.{longest, lineIn}
 use Rattle.gate_lines.specs.Gate.{Gate, gateOf, gateAfter, replyTo, cardsAfter, replyText}
 use Rattle.gate_lines.specs.declared.state.State.{State}
 
@@ -37,7 +37,7 @@ linesIn s = let c = cut (record { lines = []; rest = [] }) s in c .lines ++ last
 
 -- The state, and the first bytes of the line that is not whole yet: one more than a line may have, so that a longer line is told from a whole one.
 abbrev pub mostHeld : ℕ
-mostHeld = 1025
+mostHeld = longest + 1
 
 pub record InputState : Type 0 where
   pub gate : Gate

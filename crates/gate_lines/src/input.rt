@@ -1,4 +1,5 @@
 // The input, in blocks as they arrive, cut into lines.
+use crate::line::LONGEST;
 use crate::reply;
 use crate::state::CARDS;
 use crate::state::LineRun;
@@ -10,10 +11,10 @@ ghost use Prim.Native.Nat.{_+_, _-_, _≤_, _<_};
 ghost use lib.ListN.{length, take};
 ghost use Rattle.gate_lines.specs.Line.{lineIn};
 ghost use Rattle.gate_lines.specs.Gate.{gateOf, gateAfter, replyTo, cardsAfter, textIn, TextFits};
-ghost use Rattle.gate_lines.specs.Input.{inputStateOf, inputAfter, textAfter, lastGate, lastText, partFrom, heldAfter, lineAfter, placesAfter, lastCards};
+ghost use Rattle.gate_lines.specs.Input.{mostHeld, inputStateOf, inputAfter, textAfter, lastGate, lastText, partFrom, heldAfter, lineAfter, placesAfter, lastCards};
 
-// How many bytes of a line are held: one more than a line may have, so that a longer line is told from a whole one.
-pub const HELD: usize = 1025;
+// How many bytes of a line are held, `mostHeld` in the definitions: one more than a line may have, so that a longer line is told from a whole one.
+pub const HELD: usize = LONGEST + 1;
 
 // The state after a part of a block, how many bytes are held of a line that is not whole, how far the block is used, and what is printed.
 pub struct LineFed {
@@ -42,7 +43,7 @@ fn held_after(held: usize, n: usize) -> usize
 
 // The bytes of block from place `from` to place `end`, held after those held before, as far as there is room; how many are held then.
 fn hold(line: &mut [u8], held: usize, block: &[u8], from: usize, end: usize) -> usize
-    requires { ⌜ (from ≤ end) × (end ≤ length (now block)) × (length (now line) ≡ 1025) ⌝ }
+    requires { ⌜ (from ≤ end) × (end ≤ length (now block)) × (length (now line) ≡ mostHeld) ⌝ }
     ensures is { λ r. ⌜ r ≡ heldAfter held (end - from) ⌝ }
     ensures stores { λ r. ⌜ now (line .exit) ≡ lineAfter (now (line .entry)) held (now (block .entry)) from (end - from) ⌝ }
 {

@@ -7,7 +7,10 @@ ghost use mathlib.Core.Path.{_≡_};
 ghost use Prim.Native.Nat.{_+_, _≤_, _<_};
 ghost use lib.ListN.{length};
 ghost use Rattle.text.specs.Form.{decimal};
-ghost use Rattle.gate_lines.specs.Line.{hexFrom, headed, callIn, lineIn, lineBy, Fits};
+ghost use Rattle.gate_lines.specs.Line.{longest, hexFrom, headed, callIn, lineIn, lineBy, Fits};
+
+// The most bytes of a line, its 0A not counted; `longest` in the definitions.
+pub(crate) const LONGEST: usize = 1024;
 
 // What a line is; the bytes that HEX spells are read from the line when they are needed. `lineBy` gives the whole value.
 pub enum Line {
@@ -70,7 +73,7 @@ fn digit_in(s: &[u8], i: usize) -> u8
 
 // What a line is that is not too long and no card.
 fn call_line(s: &[u8]) -> Line
-    requires { ⌜ length (now s) ≤ 1024 ⌝ }
+    requires { ⌜ length (now s) ≤ longest ⌝ }
     ensures is { λ r. ⌜ lineBy r (now (s .entry)) ≡ callIn (now (s .entry)) ⌝ }
     ensures fits { λ r. ⌜ Fits r (now (s .entry)) ⌝ }
 {
@@ -91,7 +94,7 @@ pub fn read(s: &[u8]) -> Line
     ensures is { λ r. ⌜ lineBy r (now (s .entry)) ≡ lineIn (now (s .entry)) ⌝ }
     ensures fits { λ r. ⌜ Fits r (now (s .entry)) ⌝ }
 {
-    if 1024 < s.len() {
+    if LONGEST < s.len() {
         return Line::Bad;
     }
     let card = line::card_key(s);

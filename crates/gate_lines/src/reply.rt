@@ -1,7 +1,9 @@
 // What the program prints.
 use crate::state::LineReply;
+use crate::state::STAMP_DIGITS;
 use crate::state::TEXT;
 use crate::state::Text;
+use session::figures::STAMP;
 use session::state::Session;
 use text::bytes;
 use text::hex;
@@ -9,7 +11,7 @@ ghost use mathlib.Core.Path.{_≡_};
 ghost use mathlib.Core.List.{[], _++_};
 ghost use Prim.Native.Nat.{_+_, _≤_};
 ghost use lib.ListN.{length};
-ghost use Rattle.gate_lines.specs.Gate.{textIn, TextFits, unprinted, refusedText, replyText, stampText, endText};
+ghost use Rattle.gate_lines.specs.Gate.{textIn, textSize, TextFits, unprinted, refusedText, replyText, stampText, endText};
 ghost use Rattle.gate_lines.specs.Run.{EndPromise};
 
 // Nothing to print.
@@ -28,7 +30,7 @@ impl Text {
     fn with(self, s: &[u8]) -> Text
         requires { ⌜ TextFits self (length (now s)) ⌝ }
         ensures is { λ r. ⌜ textIn r ≡ textIn self ++ now (s .entry) ⌝ }
-        ensures fits { λ r. ⌜ (length (r .bytes) ≡ 99) × (r .len ≡ self .len + length (now (s .entry))) ⌝ }
+        ensures fits { λ r. ⌜ (length (r .bytes) ≡ textSize) × (r .len ≡ self .len + length (now (s .entry))) ⌝ }
     {
         let mut bytes = self.bytes;
         let len = self.len;
@@ -81,11 +83,11 @@ impl LineReply {
 }
 
 // `(stamp HEX)`.
-fn stamp_text(stamp: &[u8; 45]) -> Text
+fn stamp_text(stamp: &[u8; STAMP]) -> Text
     ensures { λ r. ⌜ textIn r ≡ stampText (now (stamp .entry)) ⌝ }
     ensures fits { λ r. ⌜ TextFits r 0 ⌝ }
 {
-    let mut digits = [0u8; 90];
+    let mut digits = [0u8; STAMP_DIGITS];
     hex::write(stamp, &mut digits);
     let head = no_text().with(b"(stamp ");
     let spelled = head.with(&digits);
@@ -98,7 +100,7 @@ pub fn end_text(session: Session) -> Text
     ensures fits { λ r. ⌜ TextFits r 0 ⌝ }
     ensures for_every_list { λ r. ⌜ EndPromise session (textIn r) ⌝ }
 {
-    let mut stamp = [0u8; 45];
+    let mut stamp = [0u8; STAMP];
     let answered = session.stamp(&mut stamp);
     let reply = answered.reply;
     let number = reply.number();

@@ -1,10 +1,12 @@
 // One line of the program: the calls that it makes, the new state and what it prints.
 use crate::line;
+use crate::line::LONGEST;
 use crate::line::Line;
 use crate::state::CARDS;
 use crate::state::LineReply;
 use crate::state::LineRun;
 use crate::state::State;
+use card::command::AID_MOST;
 use session::open;
 use session::state::Answered;
 use text::hex;
@@ -16,8 +18,14 @@ ghost use lib.Dec.{eqb};
 ghost use lib.ListN.{length};
 ghost use Rattle.text.specs.Hex.{bytesIn};
 ghost use Rattle.session.specs.Operation.{dead, given, openOf, verdictOf};
-ghost use Rattle.gate_lines.specs.Line.{GateLine, lineIn};
+ghost use Rattle.gate_lines.specs.Line.{GateLine, longest, lineIn};
 ghost use Rattle.gate_lines.specs.Gate.{gateOf, gateAfter, mostCards, replyBy, replyTo, cardsAfter};
+
+// The most bytes that HEX of a line spells, and the size of the buffer lent to a command call: SELECT with the longest AID is the longest command; `commandRoom` in the
+// definitions.
+const BYTES: usize = LONGEST / 2;
+
+const COMMAND: usize = AID_MOST + 6;
 
 // The program's state before the first line.
 pub fn start() -> State
@@ -79,11 +87,11 @@ impl State {
 
     // An opening: an accepted one replaces the session.
     fn open_line(self, mode: u8, date: u32, spelled: &[u8]) -> LineRun
-        requires { ⌜ length (now spelled) ≤ 1024 ⌝ }
+        requires { ⌜ length (now spelled) ≤ longest ⌝ }
         ensures { λ r. ⌜ r .reply ≡ replyBy (openOf mode date (bytesIn (now (spelled .entry))) .0) ⌝ }
         ensures { λ r. ⌜ r .state ≡ cond (eqb (openOf mode date (bytesIn (now (spelled .entry))) .0) 0) (record { session = openOf mode date (bytesIn (now (spelled .entry))) .1; cards = self .cards }) self ⌝ }
     {
-        let mut bytes = [0u8; 512];
+        let mut bytes = [0u8; BYTES];
         let n = hex::read(spelled, &mut bytes);
         let opened = open::open(mode, date, &bytes[..n]);
         let reply = opened.reply;
@@ -99,14 +107,14 @@ impl State {
 
     // An answer: the command call is made first, and the cards so far are lent with the answer.
     fn answer_line(self, cards: &[u64], object: &mut [u8], spelled: &[u8]) -> LineRun
-        requires { ⌜ length (now spelled) ≤ 1024 ⌝ }
+        requires { ⌜ length (now spelled) ≤ longest ⌝ }
         ensures { λ r. ⌜ gateOf (r .state) (now (cards .entry)) (now (object .exit)) ≡ gateAfter (gateOf self (now (cards .entry)) (now (object .entry))) (GateLine.answer (bytesIn (now (spelled .entry)))) ⌝ }
         ensures { λ r. ⌜ r .reply ≡ replyTo (gateOf self (now (cards .entry)) (now (object .entry))) (GateLine.answer (bytesIn (now (spelled .entry)))) ⌝ }
         ensures { λ r. ⌜ r .state .cards ≡ self .cards ⌝ }
     {
-        let mut bytes = [0u8; 512];
+        let mut bytes = [0u8; BYTES];
         let n = hex::read(spelled, &mut bytes);
-        let mut out = [0u8; 22];
+        let mut out = [0u8; COMMAND];
         let session = self.session;
         let sent = session.command(&mut out);
         let ready = sent.session;
@@ -117,11 +125,11 @@ impl State {
 
     // A verdict.
     fn verdict_line(self, kind: u8, yes: u8, spelled: &[u8]) -> LineRun
-        requires { ⌜ length (now spelled) ≤ 1024 ⌝ }
+        requires { ⌜ length (now spelled) ≤ longest ⌝ }
         ensures { λ r. ⌜ r .reply ≡ replyBy (verdictOf (self .session) kind yes (bytesIn (now (spelled .entry))) .0) ⌝ }
         ensures { λ r. ⌜ r .state ≡ record { session = verdictOf (self .session) kind yes (bytesIn (now (spelled .entry))) .1; cards = self .cards } ⌝ }
     {
-        let mut bytes = [0u8; 512];
+        let mut bytes = [0u8; BYTES];
         let n = hex::read(spelled, &mut bytes);
         let session = self.session;
         let answered = session.verdict(kind, yes, &bytes[..n]);

@@ -1,11 +1,14 @@
 // The program's state between two lines, and what a line prints.
+use session::figures::STAMP;
 use session::state::Session;
 
 // How many cards are kept; `mostCards` in the definitions.
 pub const CARDS: usize = 1024;
 
-// The most bytes that are printed at once: `(stamp HEX)` and 0A.
-pub const TEXT: usize = 99;
+// The digits of a stamp, and the most bytes that are printed at once: `(stamp `, these digits, `)` and 0A; `textSize` in the definitions.
+pub(crate) const STAMP_DIGITS: usize = 2 * STAMP;
+
+pub const TEXT: usize = 7 + STAMP_DIGITS + 2;
 
 // The session, dead where none is open, and how many cards were read. The cards' keys stand at the front of a buffer that is lent to each call.
 pub struct State {

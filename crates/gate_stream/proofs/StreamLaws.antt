@@ -64,16 +64,16 @@ used-up u n false e h m = clash m
 
 -- ---- gathered
 
-pub gather-more : (out text left : List ℕ) (gathered n : ℕ) → gathered ≤ 3997 → n ≡ length text → gathered + length text ≤ length out → left ≡ overPlacesWhere out gathered text
+pub gather-more : (out text left : List ℕ) (gathered n : ℕ) → gathered ≤ gatherSize - textSize → n ≡ length text → gathered + length text ≤ length out → left ≡ overPlacesWhere out gathered text
     → take (gathered + n) left ≡ gatheredAfter out gathered text
 unfolding gatheredAfter
-gather-more out text left gathered n h e f p = rw (p, store-fits out text gathered f, e, le-leb gathered 3997 h) (stored-after out text gathered f)
+gather-more out text left gathered n h e f p = rw (p, store-fits out text gathered f, e, le-leb gathered (gatherSize - textSize) h) (stored-after out text gathered f)
 
-pub gather-anew : (out text left : List ℕ) (gathered n : ℕ) → 3997 < gathered → n ≡ length text → length text ≤ length out → left ≡ overPlacesWhere out 0 text
+pub gather-anew : (out text left : List ℕ) (gathered n : ℕ) → gatherSize - textSize < gathered → n ≡ length text → length text ≤ length out → left ≡ overPlacesWhere out 0 text
     → take n left ≡ gatheredAfter out gathered text
 unfolding gatheredAfter overPlaces
 gather-anew out text left gathered n h e f p =
-    rw (p, store-fits out text 0 (omega arith), e, lt-leb gathered 3997 h) (take-at text _ (length text) refl)
+    rw (p, store-fits out text 0 (omega arith), e, lt-leb gathered (gatherSize - textSize) h) (take-at text _ (length text) refl)
 
 -- ---- the end
 

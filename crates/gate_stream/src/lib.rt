@@ -9,6 +9,7 @@ use gate_lines::state::CARDS;
 use gate_lines::state::State;
 use gate_lines::state::TEXT;
 use gate_lines::state::Text;
+use session::figures::OBJECT;
 use text::bytes;
 ghost use mathlib.Core.Path.{_≡_};
 ghost use mathlib.Core.Bool.{true};
@@ -16,13 +17,10 @@ ghost use Prim.Native.Nat.{_+_, _≤_, _<_};
 ghost use lib.ListN.{length, take};
 ghost use Rattle.gate_lines.specs.Gate.{gateOf, textIn, TextFits};
 ghost use Rattle.gate_lines.specs.Input.{inputStateOf, inputAfter, lastGate, partFrom};
-ghost use Rattle.gate_stream.specs.Stream.{Fed, gatheredAfter, EndsFor};
+ghost use Rattle.gate_stream.specs.Stream.{Fed, gatherSize, gatheredAfter, EndsFor};
 
-// How much text is gathered before it is written.
+// How much text is gathered before it is written; `gatherSize` in the definitions.
 const GATHERED: usize = 4096;
-
-// The bytes of an object buffer: document 01's 8,192.
-const OBJECT: usize = 8192;
 
 // The program at some place of a block: its state, how many bytes of an unfinished line are held, how far the block is used, how many bytes of text are
 // gathered, and whether it goes on: standard output takes what is written to it, and the input has not ended.
@@ -42,9 +40,9 @@ struct Gathered {
 
 // The text gathered after what was gathered before; that is written first where the two might not fit.
 fn gather(out: &mut [u8], gathered: usize, text: Text) -> Gathered
-    requires { ⌜ (gathered ≤ length (now out)) × (length (now out) ≡ 4096) × TextFits text 0 ⌝ }
+    requires { ⌜ (gathered ≤ length (now out)) × (length (now out) ≡ gatherSize) × TextFits text 0 ⌝ }
     ensures holds { λ r. ⌜ take (r .count) (now (out .exit)) ≡ gatheredAfter (now (out .entry)) gathered (textIn text) ⌝ }
-    ensures inside { λ r. ⌜ r .count ≤ 4096 ⌝ }
+    ensures inside { λ r. ⌜ r .count ≤ gatherSize ⌝ }
 {
     let bytes = text.bytes;
     let len = text.len;
@@ -69,10 +67,10 @@ fn one_line(
     out: &mut [u8],
     block: &[u8],
 ) -> BlockState
-    requires { ⌜ (at .gathered ≤ length (now out)) × (length (now out) ≡ 4096) ⌝ }
+    requires { ⌜ (at .gathered ≤ length (now out)) × (length (now out) ≡ gatherSize) ⌝ }
     ensures state { λ r. ⌜ inputStateOf (r .state) (r .held) (now (cards .exit)) (now (object .exit)) (now (line .exit)) ≡ inputAfter (inputStateOf (at .state) (at .held) (now (cards .entry)) (now (object .entry)) (now (line .entry))) (partFrom (now (block .entry)) (at .used) (r .used)) ⌝ }
     ensures onward { λ r. ⌜ (at .used < length (now (block .entry)) → (at .used < r .used) × (r .used ≤ length (now (block .entry)))) ⌝ }
-    ensures gathered { λ r. ⌜ r .gathered ≤ 4096 ⌝ }
+    ensures gathered { λ r. ⌜ r .gathered ≤ gatherSize ⌝ }
 {
     let state = at.state;
     let fed = state.feed_line(at.held, cards, object, line, block, at.used);
@@ -97,10 +95,10 @@ fn run_block(
     out: &mut [u8],
     block: &[u8],
 ) -> BlockState
-    requires { ⌜ (start .used ≡ 0) × (start .gathered ≤ length (now out)) × (length (now out) ≡ 4096) ⌝ }
+    requires { ⌜ (start .used ≡ 0) × (start .gathered ≤ length (now out)) × (length (now out) ≡ gatherSize) ⌝ }
     ensures state { λ r. ⌜ inputStateOf (r .state) (r .held) (now (cards .exit)) (now (object .exit)) (now (line .exit)) ≡ inputAfter (inputStateOf (start .state) (start .held) (now (cards .entry)) (now (object .entry)) (now (line .entry))) (take (r .used) (now (block .entry))) ⌝ }
     ensures whole { λ r. ⌜ (r .more ≡ true → r .used ≡ length (now (block .entry))) ⌝ }
-    ensures gathered { λ r. ⌜ r .gathered ≤ 4096 ⌝ }
+    ensures gathered { λ r. ⌜ r .gathered ≤ gatherSize ⌝ }
 {
     let mut at = start;
     while (at.used < block.len()) & at.more {
@@ -131,7 +129,7 @@ fn one_block(
     line: &mut [u8; HELD],
     out: &mut [u8],
 ) -> BlockState
-    requires { ⌜ (start .gathered ≤ length (now out)) × (length (now out) ≡ 4096) ⌝ }
+    requires { ⌜ (start .gathered ≤ length (now out)) × (length (now out) ≡ gatherSize) ⌝ }
     ensures state { λ r. ⌜ Fed (inputStateOf (start .state) (start .held) (now (cards .entry)) (now (object .entry)) (now (line .entry))) (inputStateOf (r .state) (r .held) (now (cards .exit)) (now (object .exit)) (now (line .exit))) ⌝ }
     ensures gathered { λ r. ⌜ r .gathered ≡ 0 ⌝ }
 {
@@ -154,7 +152,7 @@ fn run_input(
     line: &mut [u8; HELD],
     out: &mut [u8],
 ) -> BlockState
-    requires { ⌜ (start .gathered ≤ length (now out)) × (length (now out) ≡ 4096) ⌝ }
+    requires { ⌜ (start .gathered ≤ length (now out)) × (length (now out) ≡ gatherSize) ⌝ }
     ensures state { λ r. ⌜ Fed (inputStateOf (start .state) (start .held) (now (cards .entry)) (now (object .entry)) (now (line .entry))) (inputStateOf (r .state) (r .held) (now (cards .exit)) (now (object .exit)) (now (line .exit))) ⌝ }
 {
     let mut at = start;
@@ -199,7 +197,7 @@ fn run_whole(
     line: &mut [u8; HELD],
     out: &mut [u8],
 ) -> Text
-    requires { ⌜ length (now out) ≡ 4096 ⌝ }
+    requires { ⌜ length (now out) ≡ gatherSize ⌝ }
     ensures for_every_list { λ r. ⌜ EndsFor (now (object .entry)) (textIn r) ⌝ }
     ensures fits { λ r. ⌜ TextFits r 0 ⌝ }
 {

@@ -13,7 +13,7 @@ use Rattle.gate_stream.proofs.run_block.Tie as tie
 
 abbrev Inv-loop : tie.InvT-loop
 Inv-loop cards₀ object₀ line₀ out₀ block at₀ cards object line out at =
-    (length object ≡ length object₀) × (length out ≡ length out₀) × (at .gathered ≤ 4096) × (at .used ≤ length block)
+    (length object ≡ length object₀) × (length out ≡ length out₀) × (at .gathered ≤ gatherSize) × (at .used ≤ length block)
     × (inputStateOf (at .state) (at .held) cards object line ≡ inputAfter (inputStateOf (at₀ .state) (at₀ .held) cards₀ object₀ line₀) (take (at .used) block))
 
 abbrev μ-loop : tie.MeasureT-loop

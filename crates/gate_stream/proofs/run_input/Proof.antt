@@ -15,7 +15,7 @@ use Rattle.gate_stream.proofs.run_input.Tie as tie
 
 abbrev Inv-loop : tie.InvT-loop
 Inv-loop fd cards₀ object₀ line₀ out₀ at₀ turns₀ cards object line out at turns =
-    (length object ≡ length object₀) × (length out ≡ length out₀) × (at .gathered ≤ 4096)
+    (length object ≡ length object₀) × (length out ≡ length out₀) × (at .gathered ≤ gatherSize)
     × Fed (inputStateOf (at₀ .state) (at₀ .held) cards₀ object₀ line₀) (inputStateOf (at .state) (at .held) cards object line)
 
 abbrev μ-loop : tie.MeasureT-loop

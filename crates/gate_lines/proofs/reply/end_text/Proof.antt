@@ -24,6 +24,7 @@ end-by s e f = rw (e, f)
 end-is : (c : tie.After-number)
     → cond (eqb (c .number .result) 0) (stampText (c .before .before .stamp2 .last .1 .0)) (refusedText (c .number .result))
     ≡ endText (c .before .before .before .before .args .session)
+unfolding stampSize
 end-is c =
     let call = c .before .before in
     end-by (call .before .before .args .session) (c .number .ensures ∙ ap (λ (x : ℕ × Session). x .0) (call .stamp2 .ensures .0)) (call .stamp2 .ensures .1 .0)

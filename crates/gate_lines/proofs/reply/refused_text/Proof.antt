@@ -7,7 +7,7 @@ use Prim.Native.Nat.{ℕ, _-_, _/_, _≤_}
 use lib.ListN.{length, take, drop, length-take, length-drop}
 use lib.Seq.{take-all}
 use Rattle.gate_lines.specs.Gate.{digit, unprinted, decimalText, refusedHead, closing, refusedText}
-use Rattle.gate_lines.proofs.ReplyTextLaws.{no-bytes, three}
+use Rattle.gate_lines.proofs.ReplyTextLaws.{text-room, no-bytes, three}
 use Rattle.gate_lines.proofs.reply.refused_text.Statement.{statement}
 use Rattle.gate_lines.proofs.reply.refused_text.Tie as tie
 
@@ -25,24 +25,24 @@ printed-is n {u} e =
     take-all (3 - u) (drop u l) (rw length-drop (omega arith)) ∙ ap (λ (k : ℕ). drop k l) e
 
 with-requires : tie.Need-with-requires
-with-requires c κs = (c .before .no-text .ensures .1 .0, omega (arith, no-bytes _ (c .before .no-text .ensures)))
+with-requires c κs = (c .before .no-text .ensures .1 .0, omega (arith, text-room, no-bytes _ (c .before .no-text .ensures)))
 
 -- nine bytes, then at most three more
 nine : (c : tie.After-with) → c .with .result .len ≡ 9
-nine c = omega (arith, no-bytes _ (c .before .before .no-text .ensures))
+nine c = omega (arith, text-room, no-bytes _ (c .before .before .no-text .ensures))
 
 with-requires-2 : tie.Need-with-requires-2
 with-requires-2 c κs =
     let first = c .before .before .before .before .before in
-    (c .before .before .with .ensures .1 .0, omega (arith, nine (c .before .before), length-printed (first .before .args .n) (first .unprinted .result)))
+    (c .before .before .with .ensures .1 .0, omega (arith, text-room, nine (c .before .before), length-printed (first .before .args .n) (first .unprinted .result)))
 
 twelve : (c : tie.After-with2) → c .with2 .result .len ≤ 12
 twelve c =
     let first = c .before .before .before .before .before .before in
-    omega (arith, nine (c .before .before .before), length-printed (first .before .args .n) (first .unprinted .result))
+    omega (arith, text-room, nine (c .before .before .before), length-printed (first .before .args .n) (first .unprinted .result))
 
 with-requires-3 : tie.Need-with-requires-3
-with-requires-3 c κs = (c .before .with2 .ensures .1 .0, omega (arith, twelve (c .before)))
+with-requires-3 c κs = (c .before .with2 .ensures .1 .0, omega (arith, text-room, twelve (c .before)))
 
 returns : tie.Need-returns
 unfolding refusedText
@@ -53,7 +53,7 @@ returns c =
     let digits = printed-is (start .before .before .args .n) (start .before .unprinted .ensures .0) in (
       three _ _ _ _ refusedHead _ closing (start .no-text .ensures) (head .with .ensures) (number .with2 .ensures) (c .with3 .ensures)
           ∙ ap (λ (l : List ℕ). refusedHead ++ l ++ closing) digits,
-      (c .with3 .ensures .1 .0, omega (arith, twelve number)),
+      (c .with3 .ensures .1 .0, omega (arith, text-room, twelve number)),
     )
 
 pub refused-text-spec : {M : Type 1} → statement M

@@ -3,23 +3,27 @@ use borrow.Author.Needs.{needs}
 use native.Mathlib.Omega.{arith}
 use mathlib.Core.Path.{_≡_, ap, _∙_}
 use mathlib.Core.List.{List, _++_}
-use Prim.Native.Nat.{ℕ}
+use Prim.Native.Nat.{ℕ, _+_, _*_}
 use lib.ListN.{length, replicate}
+use Rattle.session.specs.Tables.{stampSize}
 use Rattle.text.specs.Hex.{hexOf}
 use Rattle.text.proofs.HexLaws.{length-hex}
-use Rattle.gate_lines.specs.Gate.{stampOpens, closing, stampText}
+use Rattle.gate_lines.specs.Gate.{stampOpens, closing, stampText, textSize}
 use Rattle.gate_lines.proofs.ReplyTextLaws.{no-bytes, three, spelled}
 use Rattle.gate_lines.proofs.reply.stamp_text.Statement.{statement}
 use Rattle.gate_lines.proofs.reply.stamp_text.Tie as tie
 
--- the buffer has 90 places, and holds the digits
+-- the buffer has two places for a byte of the stamp, and holds the digits
 digits-are : (c : tie.After-write) → c .write .last .1 .0 ≡ hexOf (c .before .before .before .args .stamp .now)
-digits-are c = spelled (c .before .before .before .args .stamp .now) (replicate 90 0) (omega arith) (c .write .ensures .0) (c .write .ensures .1)
+unfolding stampSize
+digits-are c = spelled (c .before .before .before .args .stamp .now) (replicate (2 * stampSize) 0) (omega arith) (c .write .ensures .0) (c .write .ensures .1)
 
-ninety : (c : tie.After-write) → length (c .write .last .1 .0) ≡ 90
-ninety c = omega (arith, ap length (digits-are c), length-hex (c .before .before .before .args .stamp .now))
+digits-long : (c : tie.After-write) → length (c .write .last .1 .0) ≡ 2 * stampSize
+unfolding stampSize
+digits-long c = omega (arith, ap length (digits-are c), length-hex (c .before .before .before .args .stamp .now))
 
 with-requires : tie.Need-with-requires
+unfolding textSize
 with-requires c κs = (c .before .no-text .ensures .1 .0, omega (arith, no-bytes _ (c .before .no-text .ensures)))
 
 -- seven bytes, and then the digits
@@ -27,16 +31,18 @@ seven : (c : tie.After-with) → c .with .result .len ≡ 7
 seven c = omega (arith, no-bytes _ (c .before .before .no-text .ensures))
 
 with-requires-2 : tie.Need-with-requires-2
-with-requires-2 c κs = (c .before .with .ensures .1 .0, omega (arith, seven (c .before), ninety (c .before .before .before .before .before)))
+unfolding textSize
+with-requires-2 c κs = (c .before .with .ensures .1 .0, omega (arith, seven (c .before), digits-long (c .before .before .before .before .before)))
 
-both : (c : tie.After-with2) → c .with2 .result .len ≡ 97
-both c = omega (arith, seven (c .before .before), ninety (c .before .before .before .before .before .before))
+both : (c : tie.After-with2) → c .with2 .result .len ≡ 7 + 2 * stampSize
+both c = omega (arith, seven (c .before .before), digits-long (c .before .before .before .before .before .before))
 
 with-requires-3 : tie.Need-with-requires-3
+unfolding textSize
 with-requires-3 c κs = (c .before .with2 .ensures .1 .0, omega (arith, both (c .before)))
 
 returns : tie.Need-returns
-unfolding stampText
+unfolding stampText textSize
 returns c =
     let digits = c .before .before in
     let head = digits .before .before in
