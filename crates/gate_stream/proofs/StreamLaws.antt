@@ -14,13 +14,13 @@ use Rattle.session.specs.declared.state.Session.{Session}
 use Rattle.session.proofs.TestLaws.{clash}
 use Rattle.text.specs.Place.{overPlacesWhere}
 use Rattle.text.proofs.PlaceLaws.{store-fits}
-use Rattle.gate_lines.specs.Gate.{Gate, fresh}
+use Rattle.gate_lines.specs.Gate.{textSize, Gate, fresh}
 use Rattle.gate_lines.specs.Run.{runLines, EndPromise}
 use Rattle.gate_lines.specs.Input.{InputState, inputStateOf, inputAfter, partFrom, linesIn, inputStart, lastGate}
 use Rattle.gate_lines.specs.declared.state.State.{State}
 use Rattle.gate_lines.proofs.InputLaws.{feed-append, whole-gate}
 use Rattle.gate_lines.proofs.ReplyTextLaws.{stored-after}
-use Rattle.gate_stream.specs.Stream.{Fed, gatheredAfter, EndsFor}
+use Rattle.gate_stream.specs.Stream.{Fed, gatherSize, gatheredAfter, EndsFor}
 
 -- ---- fed
 

@@ -8,7 +8,7 @@ use lib.Dec.{ltb}
 use lib.ListN.{length}
 use Rattle.session.proofs.TestLaws.{and-left}
 use Rattle.gate_lines.specs.Input.{inputStateOf}
-use Rattle.gate_stream.specs.Stream.{Fed}
+use Rattle.gate_stream.specs.Stream.{Fed, gatherSize}
 use Rattle.gate_stream.proofs.StreamLaws.{fed-same, fed-on}
 use Rattle.gate_stream.proofs.run_input.Statement.{statement}
 use Rattle.gate_stream.proofs.run_input.Tie as tie
