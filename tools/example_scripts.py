@@ -999,7 +999,7 @@ def main():
     assert total < 300000
     (HERE / "args").write_text("".join(name + "\n" for name in names))
     (HERE / "stdout").write_bytes(stdout)
-    readme = ["# Example scripts for `gate`", "",
+    readme = ["# gate_examples: example scripts for `gate`", "",
               "Each file of `data` is an input of the program. `args` has their names, one to a line; `stdout` has, in that order, each name on a line",
               "of its own and then what the program prints for that file. The last line printed is the stamp, or `(refused 4)` where no session is open.", "",
               "`mode`, `cause`, `step` and the numbers of checks, causes and refusals are document 01's. A name that begins with `cause_` has that cause in its stamp; one",

@@ -1,8 +1,13 @@
 // The FASC-N of a card: 25 bytes unpacked to 32 digits, packed from them, and compared (document 01, section FASC-N).
 mod characters;
+pub mod counts;
 mod order;
 
 use crate::bytes;
+use crate::fascn::counts::CHECK_PLACE;
+use crate::fascn::counts::DIGITS;
+use crate::fascn::counts::FASCN_BYTES;
+use crate::fascn::counts::KEY_DIGITS;
 ghost use mathlib.Core.Path.{_≡_};
 ghost use mathlib.Core.Bool.{not};
 ghost use mathlib.Core.List.{[], _∷_};
@@ -10,18 +15,6 @@ ghost use lib.Dec.{eqb};
 ghost use Rattle.card.specs.Lists.{sameBytes};
 ghost use Rattle.card.specs.Refusal.{refusalOf};
 ghost use Rattle.card.specs.Fascn.{unpackNumber, packNumber, unpacked, packed, unpackAnswer, unpackOf, packOf, keyOf};
-
-// A FASC-N has so many bytes, characters and digits, its check character stands at this place, counted from 0, and its key has so many digits; `fascnBytes`,
-// `fascnCharacters`, `fascnDigits`, `checkPlace` and `keyLength` in the definitions.
-pub const FASCN_BYTES: usize = 25;
-
-pub const CHARACTERS: usize = 40;
-
-pub const DIGITS: usize = 32;
-
-pub const CHECK_PLACE: usize = 39;
-
-pub const KEY_DIGITS: usize = 16;
 
 // What unpack answers: the digits, or the first fault of document 01's list. `unpackNumber` gives the number of each.
 pub enum UnpackAnswer {

@@ -5,7 +5,7 @@ ghost use lib.ListN.{length};
 ghost use Rattle.card.specs.Lists.{listOf};
 ghost use Rattle.card.specs.Fascn.{keyLength};
 ghost use Rattle.ccl.specs.Line.{digitOf, lineOf, keyDigits, keySpelled, lineKey, cardAnswer, cardOf};
-use card::fascn::KEY_DIGITS;
+use card::fascn::counts::KEY_DIGITS;
 use text::form;
 
 // The bytes of a line, its 0A among them; `lineSize` in the definitions.

@@ -6,7 +6,7 @@ use mathlib.Core.Logic.{_↔_}
 use mathlib.Core.List.{List}
 use Prim.Native.Nat.{ℕ, _+_, _*_, _≤_, _<_}
 use native.Mathlib.Omega.{arith}
-use lib.ListN.{length, getD}
+use lib.ListN.{length}
 use Rattle.card.proofs.ListsLaws.{length-listOf, getD-listOf}
 use Rattle.ccl.specs.Line.{keyLimit, lineOf}
 use Rattle.ccl.specs.ListText.{wellFormed, goodLines, keyAt, lineAt}

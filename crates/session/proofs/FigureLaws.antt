@@ -1,7 +1,7 @@
 -- Document 01's figures: what is to be known of the object buffer's size, of where each step's data begins in it and how much it may hold, and of the ceiling on answers.
 -- Assumes nothing.
 use mathlib.Core.Path.{_≡_, refl}
-use mathlib.Core.Bool.{Bool, true, false, cond}
+use mathlib.Core.Bool.{true, cond}
 use Prim.Native.Nat.{ℕ, _+_, _≤_, _<_}
 use native.Mathlib.Omega.{arith}
 use lib.Dec.{eqb}

@@ -11,7 +11,7 @@ use borrow.Author.Tests.{eqb-true, eqb-false, leb-true, le-leb}
 use lib.Dec.{eqb, leb}
 use lib.ListN.{length, getD}
 use Rattle.card.specs.Lists.{sameBytes}
-use Rattle.card.proofs.ListsLaws.{all-at, all-of}
+use Rattle.card.proofs.ListsLaws.{all-at}
 use Rattle.card.proofs.FascnLaws.{same-bytes, same-refl}
 use Rattle.session.specs.Tables.{checks, goodKind, needs, isIn, checkServed, outcomeOf, passed, unneeded, failed, otherCard, verdictOutcome, expiryOutcome, listed, listOutcome, lowestFrom, causeOf, allPassed, standingOf, fascnRead, keyRead, expiryRead}
 use Rattle.session.specs.Reading.{Opening, StepOne, Verdict, Found, Reading, ownFascn}

@@ -4,7 +4,7 @@ use mathlib.Core.Path.{_≡_, refl, subst}
 use mathlib.Core.Bool.{true, not, _&&_, _||_, or-true}
 use mathlib.Core.Option.{Option}
 use mathlib.Core.List.{List, [], _∷_}
-use Prim.Native.Nat.{ℕ, zero, suc, _+_, _-_, _≤_}
+use Prim.Native.Nat.{ℕ, zero, suc, _+_, _≤_}
 use native.Mathlib.Omega.{arith}
 use borrow.Author.Tests.{le-leb, not-true, not-false}
 use lib.Dec.{eqb}
@@ -27,7 +27,7 @@ use Rattle.session.specs.Operation.{noParts}
 use Rattle.session.specs.Promise.{goodOpening}
 use Rattle.session.proofs.TestLaws.{and-left, and-right, and-both}
 use Rattle.session.proofs.FigureLaws.{base-fits}
-use Rattle.session.proofs.Invariant.{opening-of, expiry-of, parts-one, parts-two, card-of, session-of, OneHeld, TwoHeld, Invariant}
+use Rattle.session.proofs.Invariant.{expiry-of, parts-one, parts-two, session-of, OneHeld, TwoHeld, Invariant}
 
 -- ---- parts
 

@@ -5,7 +5,6 @@ use mathlib.Core.Bool.{Bool, not, _&&_, _||_}
 use mathlib.Core.List.{List, [], _∷_}
 use Prim.Native.Nat.{ℕ}
 use lib.Dec.{eqb, ltb, leb}
-use lib.ListN.{length}
 use Rattle.card.specs.Fascn.{unpackOf}
 use Rattle.card.specs.Date.{realDate}
 use Rattle.card.specs.Command.{aidRefused}

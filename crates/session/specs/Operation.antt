@@ -1,6 +1,6 @@
 -- What each call on a session gives, and what it leaves in the buffers that it is lent: the contracts cite these, for every session and every buffer.
 -- Assumes nothing.
-use mathlib.Core.Bool.{Bool, true, false, cond, _||_}
+use mathlib.Core.Bool.{true, false, cond, _||_}
 use mathlib.Core.List.{List, [], _∷_}
 use Prim.Native.Nat.{ℕ, _+_}
 use lib.Dec.{eqb}
@@ -16,7 +16,6 @@ use Rattle.card.specs.declared.command.Status.the-variants.{Done, More, Other}
 use Rattle.session.specs.Tables.{checks, checkServed, withOutcome, neededOutcomes, verdictOutcome, causeOf, standingOf, kindAt, stepAfter, baseOf, capacity, stepOfTag, NextCommand, commandBytes, isResponse, dataOf, statusBytes, ruleCause, statusShown, fascnRead, expiryRead, judgedOutcomes, joinedCause, headOf, layout}
 use Rattle.session.specs.Condition.{openConditions, commandConditions, answerConditions, verdictConditions, fieldRefused, stampConditions}
 use Rattle.session.specs.Ranges.{outOfRange}
-use Rattle.session.specs.declared.state.SessionOpening.{SessionOpening}
 use Rattle.session.specs.declared.state.SessionProgress.{SessionProgress}
 use Rattle.session.specs.declared.state.Card.{Card}
 use Rattle.session.specs.declared.state.Session.{Session}

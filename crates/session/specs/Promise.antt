@@ -15,7 +15,7 @@ use Rattle.session.specs.Tables.{modeInRange, answersMost, stampSize}
 use Rattle.session.specs.Ranges.{inRange}
 use Rattle.session.specs.Operation.{replyNumber, opened, commandOf, commandBuffer, answerRefusal, answerOf, answerBuffer, verdictOf, fieldOf, stampAnswer, stampBuffer}
 use Rattle.session.specs.Reading.{Opening, Arguments, Reading, begins, nextCommand, refusedBy, reading, refusals, fieldIn, answersIn, answers}
-use Rattle.session.specs.Finding.{Finding, finding, standing, stampOf, Granted}
+use Rattle.session.specs.Finding.{finding, standing, stampOf, Granted}
 use Rattle.session.specs.declared.state.Session.{Session}
 use Rattle.session.specs.declared.state.Answered.{Answered}
 use Rattle.session.specs.declared.state.Commanded.{Commanded}

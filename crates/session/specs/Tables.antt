@@ -12,7 +12,7 @@ use Rattle.card.specs.Fascn.{fascnBytes, unpackOf, keyOf}
 use Rattle.card.specs.Template.{templateOf}
 use Rattle.card.specs.Object.{fascnTag, guidTag, expiryTag, signatureTag, fingersTag, objectOf, fieldValue}
 use Rattle.card.specs.Date.{dateOf}
-use Rattle.card.specs.Command.{selectBytes, getDataBytes, getResponseBytes, statusOf}
+use Rattle.card.specs.Command.{selectBytes, getDataBytes, getResponseBytes}
 use Rattle.card.specs.declared.object.Kind.{Kind}
 use Rattle.card.specs.declared.object.Kind.the-variants.{Signed, Unsigned, Fingers}
 use Rattle.card.specs.declared.command.Status.{Status}

@@ -1,5 +1,5 @@
 // Document 01's figures, each once. A figure that the definitions name stands in specs/Tables.antt under the name given here.
-use card::fascn::FASCN_BYTES;
+use card::fascn::counts::FASCN_BYTES;
 
 // "Modes 1 to 4 are built": `greatestMode`. "Verdict kinds 1, 2, 3, 4": `greatestKind`.
 pub(crate) const MODES: u8 = 4;

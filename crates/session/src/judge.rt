@@ -22,12 +22,10 @@ use card::object::Kind;
 use card::object::Part;
 use card::template;
 ghost use mathlib.Core.Path.{_≡_};
-ghost use Prim.Native.Nat.{_+_, _≤_};
-ghost use lib.ListN.{length};
-ghost use Rattle.card.specs.Fascn.{keyOf};
+ghost use Prim.Native.Nat.{_+_};
 ghost use Rattle.card.specs.Object.{objectOf, fieldValue};
 ghost use Rattle.card.specs.Date.{dateAnswer};
-ghost use Rattle.session.specs.Tables.{expiryOutcome, listed, listOutcome, kindAt, withOutcome, fascnRead};
+ghost use Rattle.session.specs.Tables.{expiryOutcome, listed, listOutcome, kindAt, withOutcome};
 ghost use Rattle.session.specs.Operation.{step2EndSession, judgedSession};
 
 // The number that a date spells, 0 where it is none.

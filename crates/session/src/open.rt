@@ -8,10 +8,10 @@ use crate::state::Session;
 use crate::state::SessionOpening;
 use crate::store;
 use crate::tables;
-use card::command;
 use card::command::AID_MOST;
+use card::command::good_aid;
 use card::date;
-use card::fascn::FASCN_BYTES;
+use card::fascn::counts::FASCN_BYTES;
 use card::object::FIELDS;
 use card::object::Part;
 ghost use mathlib.Core.Path.{_≡_};
@@ -63,7 +63,7 @@ fn open_refusal(mode: u8, date: u32, aid: &[u8]) -> Reply
     if !date::real(date) {
         return Reply::UnrealDate;
     }
-    if !command::good_aid(aid.len()) {
+    if !good_aid(aid.len()) {
         return Reply::WrongAid;
     }
     Reply::Accepted

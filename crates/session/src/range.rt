@@ -4,7 +4,7 @@ use crate::figures::OBJECT;
 use crate::figures::OTHER_CARD;
 use crate::state::Session;
 use crate::tables;
-use card::command;
+use card::command::good_aid;
 use card::date;
 use card::object::FIELDS;
 use card::object::Part;
@@ -76,7 +76,7 @@ impl Values {
     {
         let o = self.outcomes;
         let opening = (tables::mode_in_range(self.mode) & date::real(self.date))
-            & command::good_aid(self.aid_len);
+            & good_aid(self.aid_len);
         let cause = (self.cause == 0) | tables::ends(self.cause);
         let step = (self.step <= 3) & (!(self.step == 2) | tables::has_step2(self.mode));
         let turn = !self.outstanding | ((self.step <= 2) & (self.cause == 0));

@@ -1,7 +1,7 @@
 // The session's values, by groups, and the answers of its calls.
 use crate::figures::CHECKS;
 use card::command::AID_MOST;
-use card::fascn::FASCN_BYTES;
+use card::fascn::counts::FASCN_BYTES;
 use card::object::FIELDS;
 use card::object::Part;
 ghost use mathlib.Core.Path.{_≡_};

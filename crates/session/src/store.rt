@@ -1,7 +1,7 @@
 // Bytes copied into a buffer that is lent, and the lengths of arrays that stand in a struct.
 use crate::figures::CHECKS;
 use card::command::AID_MOST;
-use card::fascn::FASCN_BYTES;
+use card::fascn::counts::FASCN_BYTES;
 ghost use mathlib.Core.Path.{_≡_};
 ghost use Prim.Native.Nat.{_+_, _≤_};
 ghost use lib.ListN.{length, replicate};

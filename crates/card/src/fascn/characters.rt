@@ -1,7 +1,7 @@
 // 25 bytes as 40 characters of 5 bits, and back. Five bytes are eight characters: each way goes by numbers of 40 bits.
 // A character is kept as one number, the bit sent first highest.
-use crate::fascn::CHARACTERS;
-use crate::fascn::FASCN_BYTES;
+use crate::fascn::counts::CHARACTERS;
+use crate::fascn::counts::FASCN_BYTES;
 ghost use mathlib.Core.Path.{_≡_};
 ghost use Prim.Native.Nat.{_+_, _-_, _*_, _%_, _/_, _^_, _<_};
 ghost use lib.ListN.{length, getD};

@@ -1,9 +1,9 @@
 // The order of a FASC-N: where its digits and marks stand among the 40 characters, and the check value.
 use crate::bytes;
-use crate::fascn::CHARACTERS;
-use crate::fascn::CHECK_PLACE;
-use crate::fascn::DIGITS;
 use crate::fascn::characters;
+use crate::fascn::counts::CHARACTERS;
+use crate::fascn::counts::CHECK_PLACE;
+use crate::fascn::counts::DIGITS;
 ghost use mathlib.Core.Path.{_≡_};
 ghost use lib.ListN.{getD};
 ghost use Rattle.card.specs.Lists.{listOf, all};

@@ -3,14 +3,15 @@ use crate::print;
 use crate::report::object;
 use card::bytes;
 use card::fascn;
+use card::fascn::counts;
 ghost use mathlib.Core.Path.{_≡_};
 ghost use Prim.Native.Nat.{_+_, _*_, _<_};
 ghost use lib.ListN.{length};
 ghost use Rattle.card.specs.Fascn.{fascnBytes, fascnCharacters, fascnDigits, bitAt};
 
 // The digits by field: agency, system, credential, series, issue, person, category, organisation, association.
-fn print_digits(d: [u8; fascn::DIGITS]) {
-    for k in 0..fascn::DIGITS {
+fn print_digits(d: [u8; counts::DIGITS]) {
+    for k in 0..counts::DIGITS {
         if (k == 4)
             | (k == 8)
             | (k == 14)
@@ -28,7 +29,7 @@ fn print_digits(d: [u8; fascn::DIGITS]) {
 }
 
 // Bit p of 25 bytes, as the digit 0 or 1.
-fn bit_digit(s: [u8; fascn::FASCN_BYTES], p: usize) -> u8
+fn bit_digit(s: [u8; counts::FASCN_BYTES], p: usize) -> u8
     requires { ⌜ p < 8 * fascnBytes ⌝ }
     ensures { λ r. ⌜ r ≡ bitAt s p + 48 ⌝ }
 {
@@ -36,7 +37,7 @@ fn bit_digit(s: [u8; fascn::FASCN_BYTES], p: usize) -> u8
 }
 
 // The five bits of character i of 25 bytes, in the order sent.
-fn print_character(s: [u8; fascn::FASCN_BYTES], i: usize)
+fn print_character(s: [u8; counts::FASCN_BYTES], i: usize)
     requires { ⌜ i < fascnCharacters ⌝ }
 {
     let text = [
@@ -50,12 +51,12 @@ fn print_character(s: [u8; fascn::FASCN_BYTES], i: usize)
 }
 
 // The digits, the check character, the key, and the bytes that the digits pack to.
-fn print_unpacked(d: [u8; fascn::DIGITS]) {
+fn print_unpacked(d: [u8; counts::DIGITS]) {
     print_digits(d);
     let p = fascn::pack(d);
     let again = p.bytes;
     print::text(b", check character ");
-    print_character(again, fascn::CHECK_PLACE);
+    print_character(again, counts::CHECK_PLACE);
     print::text(b", key ");
     let key = fascn::key_of(d);
     print::number(key.0);
@@ -77,12 +78,12 @@ fn unpack(s: &[u8]) {
 }
 
 // The 32 bytes of s.
-fn digits_in(s: &[u8]) -> [u8; fascn::DIGITS]
+fn digits_in(s: &[u8]) -> [u8; counts::DIGITS]
     requires { ⌜ length (now s) ≡ fascnDigits ⌝ }
     ensures { λ r. ⌜ r ≡ now (s .entry) ⌝ }
 {
-    let mut d = [0u8; fascn::DIGITS];
-    for i in 0..fascn::DIGITS {
+    let mut d = [0u8; counts::DIGITS];
+    for i in 0..counts::DIGITS {
         d[i] = s[i];
     }
     d
@@ -90,7 +91,7 @@ fn digits_in(s: &[u8]) -> [u8; fascn::DIGITS]
 
 // What pack says of the 32 digits s.
 fn pack(s: &[u8]) {
-    if s.len() != fascn::DIGITS {
+    if s.len() != counts::DIGITS {
         print::no_vector();
         return;
     }
@@ -123,7 +124,7 @@ pub(crate) fn answer(name: &[u8], b: &[u8]) {
 fn code_line(name: &[u8], x: u8, i: usize)
     requires { ⌜ i < fascnCharacters ⌝ }
 {
-    let p = fascn::pack([x; fascn::DIGITS]);
+    let p = fascn::pack([x; counts::DIGITS]);
     let s = p.bytes;
     print::text(b"003 figure 7: ");
     print::text(name);

@@ -1,6 +1,5 @@
 -- `session::range::part_inside` meets its contract: its end lies inside. Assumes nothing.
 use mathlib.Core.Path.{refl}
-use native.Mathlib.Omega.{arith}
 use borrow.Author.Needs.{needs}
 use Rattle.session.specs.Tables.{objectSize}
 use Rattle.session.proofs.FigureLaws.{object-small}
