@@ -1,4 +1,4 @@
--- A turn of the code, and the end of the input: what the functions give is what the definitions say of the bytes. Assumes nothing.
+-- A part of a block fed, and the end of the input: what the functions give is what the definitions say of the bytes. Assumes nothing.
 use mathlib.Core.Path.{_≡_, sym, ap, ap₂, _∙_}
 use mathlib.Core.List.{List, []}
 use Prim.Native.Nat.{ℕ, _+_, _-_, _≤_, _<_, min}
@@ -10,33 +10,33 @@ use Rattle.card.proofs.ListsLaws.{written-none}
 use Rattle.text.specs.Place.{countBefore}
 use Rattle.gate_lines.specs.Line.{lineIn}
 use Rattle.gate_lines.specs.Gate.{Gate, gateAfter, replyTo, cardsAfter, replyText}
-use Rattle.gate_lines.specs.Input.{InputState, mostHeld, inputAfter, textAfter, lastGate, lastText, partFrom, heldAfter, lineAfter, placesAfter}
+use Rattle.gate_lines.specs.Input.{InputState, mostHeld, inputAfter, textOfInput, lastGate, lastText, partFrom, heldAfter, lineAfter, placesAfter}
 use Rattle.gate_lines.specs.declared.state.State.{State}
 use Rattle.gate_lines.specs.declared.state.LineReply.{LineReply}
-use Rattle.gate_lines.proofs.InputLaws.{heldTo, turn-run, turn-line}
+use Rattle.gate_lines.proofs.InputLaws.{heldTo, part-run, part-line}
 
 -- nothing is left of the block
-pub none-turn : (m : InputState) (block : List ℕ) (from : ℕ) → (m ≡ inputAfter m (partFrom block from from)) × (_≡_ {A = List ℕ} [] (textAfter m (partFrom block from from)))
-unfolding partFrom inputAfter textAfter
-none-turn m block from = let z : from - from ≡ 0 = omega arith in (rw z, rw z)
+pub none-fed : (m : InputState) (block : List ℕ) (from : ℕ) → (m ≡ inputAfter m (partFrom block from from)) × (_≡_ {A = List ℕ} [] (textOfInput m (partFrom block from from)))
+unfolding partFrom inputAfter textOfInput
+none-fed m block from = let z : from - from ≡ 0 = omega arith in (rw z, rw z)
 
 -- the block ends first: its bytes are held
-pub run-turn : (g : Gate) (line left : List ℕ) (held n : ℕ) (block : List ℕ) (from end : ℕ) → length line ≡ mostHeld → end ≡ from + countBefore 0x0A (drop from block) → end ≤ length block
+pub run-fed : (g : Gate) (line left : List ℕ) (held n : ℕ) (block : List ℕ) (from end : ℕ) → length line ≡ mostHeld → end ≡ from + countBefore 0x0A (drop from block) → end ≤ length block
     → n ≡ heldAfter held (end - from) → left ≡ lineAfter line held block from (end - from)
     → (record { gate = g; held = take n left } ≡ inputAfter (record { gate = g; held = take held line }) (partFrom block from end))
-    × (_≡_ {A = List ℕ} [] (textAfter (record { gate = g; held = take held line }) (partFrom block from end)))
-run-turn g line left held n block from end l e h p q =
-    let w = turn-run g line held block from end l e h in
+    × (_≡_ {A = List ℕ} [] (textOfInput (record { gate = g; held = take held line }) (partFrom block from end)))
+run-fed g line left held n block from end l e h p q =
+    let w = part-run g line held block from end l e h in
     (ap₂ (λ (k : ℕ) (x : List ℕ). record { gate = g; held = take k x }) p q ∙ sym (w .0), sym (w .1))
 
 -- a 0A ends the line: it is carried out
-pub line-turn : (g u : Gate) (line left : List ℕ) (held n : ℕ) (block : List ℕ) (from end : ℕ) (reply : LineReply) (text : List ℕ) → length line ≡ mostHeld
+pub line-fed : (g u : Gate) (line left : List ℕ) (held n : ℕ) (block : List ℕ) (from end : ℕ) (reply : LineReply) (text : List ℕ) → length line ≡ mostHeld
     → end ≡ from + countBefore 0x0A (drop from block) → end < length block → n ≡ heldAfter held (end - from) → left ≡ lineAfter line held block from (end - from)
     → u ≡ gateAfter g (lineIn (take n left)) → reply ≡ replyTo g (lineIn (take n left)) → text ≡ replyText reply
     → (record { gate = u; held = [] } ≡ inputAfter (record { gate = g; held = take held line }) (partFrom block from (end + 1)))
-    × (text ≡ textAfter (record { gate = g; held = take held line }) (partFrom block from (end + 1)))
-line-turn g u line left held n block from end reply text l e h p q d s t =
-    let w = turn-line g line held block from end l e h in
+    × (text ≡ textOfInput (record { gate = g; held = take held line }) (partFrom block from (end + 1)))
+line-fed g u line left held n block from end reply text l e h p q d s t =
+    let w = part-line g line held block from end l e h in
     let same : take n left ≡ heldTo line held block from end = ap₂ take p q in (
       ap (λ (x : Gate). record { gate = x; held = [] }) (d ∙ ap (λ (x : List ℕ). gateAfter g (lineIn x)) same) ∙ sym (w .0),
       t ∙ ap replyText (s ∙ ap (λ (x : List ℕ). replyTo g (lineIn x)) same) ∙ sym (w .1),

@@ -16,7 +16,7 @@ use Rattle.gate_lines.proofs.LineLaws.{line-held}
 use Rattle.gate_lines.specs.Line.{lineIn}
 use Rattle.gate_lines.specs.Gate.{Gate, gateAfter, replyTo, replyText, endText}
 use Rattle.gate_lines.specs.Run.{runLines, printed, output}
-use Rattle.gate_lines.specs.Input.{Cut, cutByte, cut, lastLine, linesIn, mostHeld, InputState, inputStart, inputAfterByte, textAfterByte, inputAfter, textAfter, lastGate, lastText, partFrom, heldAfter, lineAfter}
+use Rattle.gate_lines.specs.Input.{Cut, cutByte, cut, lastLine, linesIn, mostHeld, InputState, inputStart, inputAfterByte, textOfByte, inputAfter, textOfInput, lastGate, lastText, partFrom, heldAfter, lineAfter}
 use Rattle.text.proofs.PlaceLaws.{NoEnd, none-before, with-end}
 
 -- ---- one block after another
@@ -26,10 +26,10 @@ unfolding inputAfter
 feed-append [] b m = refl
 feed-append (x ∷ a) b m = feed-append a b (inputAfterByte m x)
 
-pub text-append : (a b : List ℕ) (m : InputState) → textAfter m (a ++ b) ≡ textAfter m a ++ textAfter (inputAfter m a) b
-unfolding inputAfter textAfter
+pub text-append : (a b : List ℕ) (m : InputState) → textOfInput m (a ++ b) ≡ textOfInput m a ++ textOfInput (inputAfter m a) b
+unfolding inputAfter textOfInput
 text-append [] b m = refl
-text-append (x ∷ a) b m = ap (λ (t : List ℕ). textAfterByte m x ++ t) (text-append a b (inputAfterByte m x)) ∙ sym (append-assoc (textAfterByte m x) _ _)
+text-append (x ∷ a) b m = ap (λ (t : List ℕ). textOfByte m x ++ t) (text-append a b (inputAfterByte m x)) ∙ sym (append-assoc (textOfByte m x) _ _)
 
 -- ---- a part of a block without 0A, and with one at its end
 
@@ -56,8 +56,8 @@ unfolding inputAfter
 feed-run [] m n h = ap (λ (l : List ℕ). record { gate = m .gate; held = l }) (sym (ap (take mostHeld) (append-nil (m .held)) ∙ take-all mostHeld (m .held) h))
 feed-run (b ∷ s) m n h = rw (n .0) (feed-run s (holds m (b ∷ [])) (n .1) (held-within m (b ∷ [])) ∙ holds-on m b s)
 
-pub run-text : (s : List ℕ) (m : InputState) → NoEnd s → textAfter m s ≡ []
-unfolding textAfter
+pub run-text : (s : List ℕ) (m : InputState) → NoEnd s → textOfInput m s ≡ []
+unfolding textOfInput
 run-text [] m n = refl
 run-text (b ∷ s) m n = rw (n .0) (run-text s (holds m (b ∷ [])) (n .1))
 
@@ -67,10 +67,10 @@ unfolding inputAfter
 feed-line s m n h = feed-append s (0x0A ∷ []) m ∙ ap (λ (k : InputState). inputAfter k (0x0A ∷ [])) (feed-run s m n h)
 
 pub line-text : (s : List ℕ) (m : InputState) → NoEnd s → length (m .held) ≤ mostHeld
-    → textAfter m (s ++ (0x0A ∷ [])) ≡ replyText (replyTo (m .gate) (lineIn (take mostHeld (m .held ++ s))))
-unfolding textAfter
+    → textOfInput m (s ++ (0x0A ∷ [])) ≡ replyText (replyTo (m .gate) (lineIn (take mostHeld (m .held ++ s))))
+unfolding textOfInput
 line-text s m n h =
-    text-append s (0x0A ∷ []) m ∙ ap₂ (λ (t : List ℕ) (k : InputState). t ++ textAfter k (0x0A ∷ [])) (run-text s m n) (feed-run s m n h) ∙ append-nil _
+    text-append s (0x0A ∷ []) m ∙ ap₂ (λ (t : List ℕ) (k : InputState). t ++ textOfInput k (0x0A ∷ [])) (run-text s m n) (feed-run s m n h) ∙ append-nil _
 
 -- ---- how the code holds a line
 
@@ -130,7 +130,7 @@ length-by line held block from n false t e =
 pub length-then : (line : List ℕ) (held : ℕ) (block : List ℕ) (from n : ℕ) → length line ≡ mostHeld → length (lineAfter line held block from n) ≡ mostHeld
 length-then line held block from n = length-by line held block from n (ltb mostHeld held) refl
 
--- ---- a turn of the code: from place `from` on, with the first 0A at place `end`, or none
+-- ---- a part of a block fed: from place `from` on, with the first 0A at place `end`, or none
 
 -- what is held of the line then
 abbrev pub heldTo : List ℕ → ℕ → List ℕ → ℕ → ℕ → List ℕ
@@ -148,30 +148,30 @@ line-within : (line : List ℕ) (held : ℕ) → length line ≡ mostHeld → le
 line-within line held l = omega (arith, length-take held line)
 
 -- where the block ends first, the bytes are held
-pub turn-run : (g : Gate) (line : List ℕ) (held : ℕ) (block : List ℕ) (from end : ℕ) → length line ≡ mostHeld → end ≡ from + countBefore 0x0A (drop from block)
+pub part-run : (g : Gate) (line : List ℕ) (held : ℕ) (block : List ℕ) (from end : ℕ) → length line ≡ mostHeld → end ≡ from + countBefore 0x0A (drop from block)
     → end ≤ length block
     → (inputAfter (record { gate = g; held = take held line }) (partFrom block from end)
     ≡ record { gate = g; held = heldTo line held block from end })
-    × (textAfter (record { gate = g; held = take held line }) (partFrom block from end) ≡ [])
+    × (textOfInput (record { gate = g; held = take held line }) (partFrom block from end) ≡ [])
 unfolding partFrom
-turn-run g line held block from end l e h =
+part-run g line held block from end l e h =
     let m : InputState = record { gate = g; held = take held line } in
     let s = drop from block in
     let part : take (end - from) s ≡ take (countBefore 0x0A s) s = ap (λ (n : ℕ). take n s) (ends-at block from end e) in (
       ap (inputAfter m) part ∙ feed-run (take (countBefore 0x0A s) s) m (none-before s) (line-within line held l)
           ∙ ap (λ (x : List ℕ). record { gate = g; held = x }) (held-to line held block from end l e h),
-      ap (textAfter m) part ∙ run-text (take (countBefore 0x0A s) s) m (none-before s),
+      ap (textOfInput m) part ∙ run-text (take (countBefore 0x0A s) s) m (none-before s),
     )
 
 -- where a 0A ends the line, the line is done
-pub turn-line : (g : Gate) (line : List ℕ) (held : ℕ) (block : List ℕ) (from end : ℕ) → length line ≡ mostHeld → end ≡ from + countBefore 0x0A (drop from block)
+pub part-line : (g : Gate) (line : List ℕ) (held : ℕ) (block : List ℕ) (from end : ℕ) → length line ≡ mostHeld → end ≡ from + countBefore 0x0A (drop from block)
     → end < length block
     → (inputAfter (record { gate = g; held = take held line }) (partFrom block from (end + 1))
     ≡ record { gate = gateAfter g (lineIn (heldTo line held block from end)); held = [] })
-    × (textAfter (record { gate = g; held = take held line }) (partFrom block from (end + 1))
+    × (textOfInput (record { gate = g; held = take held line }) (partFrom block from (end + 1))
     ≡ replyText (replyTo g (lineIn (heldTo line held block from end))))
 unfolding partFrom
-turn-line g line held block from end l e h =
+part-line g line held block from end l e h =
     let m : InputState = record { gate = g; held = take held line } in
     let s = drop from block in
     let all : end + 1 - from ≡ countBefore 0x0A s + 1 = omega (arith, e) in
@@ -180,7 +180,7 @@ turn-line g line held block from end l e h =
     let to = held-to line held block from end l e (omega arith) in (
       ap (inputAfter m) part ∙ feed-line (take (countBefore 0x0A s) s) m (none-before s) (line-within line held l)
           ∙ ap (λ (x : List ℕ). record { gate = gateAfter g (lineIn x); held = [] }) to,
-      ap (textAfter m) part ∙ line-text (take (countBefore 0x0A s) s) m (none-before s) (line-within line held l) ∙ ap (λ (x : List ℕ). replyText (replyTo g (lineIn x))) to,
+      ap (textOfInput m) part ∙ line-text (take (countBefore 0x0A s) s) m (none-before s) (line-within line held l) ∙ ap (λ (x : List ℕ). replyText (replyTo g (lineIn x))) to,
     )
 
 -- ---- one list of lines after another
@@ -211,7 +211,7 @@ printed-line g ls l m p q =
 
 -- ---- the input and its lines
 
--- the machine has done the lines of the cut, and holds the first bytes of its rest
+-- the input's state after the lines of the cut, which holds the first bytes of its rest
 pub record Does (g : Gate) (c : Cut) (m : InputState) : Type 0 where
   pub gate : m .gate ≡ runLines g (c .lines)
   pub held : m .held ≡ take mostHeld (c .rest)
@@ -226,7 +226,7 @@ byte-does g c m b false e d =
     })
 
 byte-prints : (g : Gate) (c : Cut) (m : InputState) (b : ℕ) (t : Bool) → eqb b 0x0A ≡ t → Does g c m
-    → printed g (cutByte c b .lines) ≡ printed g (c .lines) ++ textAfterByte m b
+    → printed g (cutByte c b .lines) ≡ printed g (c .lines) ++ textOfByte m b
 byte-prints g c m b true e d = rw e (printed-line g (c .lines) (c .rest) m (d .gate) (d .held))
 byte-prints g c m b false e d = rw e (sym (append-nil (printed g (c .lines))))
 
@@ -235,12 +235,12 @@ unfolding inputAfter cut
 feed-cut [] g c m d = d
 feed-cut (b ∷ s) g c m d = feed-cut s g (cutByte c b) (inputAfterByte m b) (byte-does g c m b (eqb b 0x0A) refl d)
 
-pub cut-prints : (s : List ℕ) (g : Gate) (c : Cut) (m : InputState) → Does g c m → printed g (cut c s .lines) ≡ printed g (c .lines) ++ textAfter m s
-unfolding cut textAfter
+pub cut-prints : (s : List ℕ) (g : Gate) (c : Cut) (m : InputState) → Does g c m → printed g (cut c s .lines) ≡ printed g (c .lines) ++ textOfInput m s
+unfolding cut textOfInput
 cut-prints [] g c m d = sym (append-nil (printed g (c .lines)))
 cut-prints (b ∷ s) g c m d =
     cut-prints s g (cutByte c b) (inputAfterByte m b) (byte-does g c m b (eqb b 0x0A) refl d)
-    ∙ ap (λ (t : List ℕ). t ++ textAfter (inputAfterByte m b) s) (byte-prints g c m b (eqb b 0x0A) refl d) ∙ append-assoc (printed g (c .lines)) _ _
+    ∙ ap (λ (t : List ℕ). t ++ textOfInput (inputAfterByte m b) s) (byte-prints g c m b (eqb b 0x0A) refl d) ∙ append-assoc (printed g (c .lines)) _ _
 
 -- ---- the whole input
 
@@ -271,7 +271,7 @@ whole-gate g s =
     let d = feed-cut s g (record { lines = []; rest = [] }) (inputStart g) (starts-does g) in
     last-gate g (c .lines) (c .rest) (inputAfter (inputStart g) s) (d .gate) (d .held)
 
-pub whole-text : (g : Gate) (s : List ℕ) → printed g (linesIn s) ≡ textAfter (inputStart g) s ++ lastText (inputAfter (inputStart g) s)
+pub whole-text : (g : Gate) (s : List ℕ) → printed g (linesIn s) ≡ textOfInput (inputStart g) s ++ lastText (inputAfter (inputStart g) s)
 unfolding linesIn printed
 whole-text g s =
     let c = cut (record { lines = []; rest = [] }) s in
@@ -281,7 +281,7 @@ whole-text g s =
 
 -- an input, in whatever blocks it arrives, prints what its lines print
 pub whole-output : (g : Gate) (s : List ℕ)
-    → textAfter (inputStart g) s ++ lastText (inputAfter (inputStart g) s) ++ endText (lastGate (inputAfter (inputStart g) s) .session) ≡ output g (linesIn s)
+    → textOfInput (inputStart g) s ++ lastText (inputAfter (inputStart g) s) ++ endText (lastGate (inputAfter (inputStart g) s) .session) ≡ output g (linesIn s)
 unfolding output
 whole-output g s =
     ap₂ (λ (t : List ℕ) (h : Gate). t ++ endText (h .session)) (sym (whole-text g s)) (whole-gate g s)

@@ -8,7 +8,7 @@
 -- RunLaws: the promise over every list of lines
 -- InputLaws: the input cut into lines, in whatever blocks it arrives
 -- LinesLaws: lines put together, and cut again
--- FeedLaws: a turn of the code
+-- FeedLaws: a part of a block fed
 pub mod CancelledLaws
 pub mod LineLaws
 pub mod LineTextLaws

@@ -55,16 +55,16 @@ abbrev pub inputAfterByte : InputState → ℕ → InputState
 inputAfterByte m b =
     cond (eqb b 0x0A) (record { gate = gateAfter (m .gate) (lineIn (m .held)); held = [] }) (record { gate = m .gate; held = take mostHeld (m .held ++ (b ∷ [])) })
 
-abbrev pub textAfterByte : InputState → ℕ → List ℕ
-textAfterByte m b = cond (eqb b 0x0A) (replyText (replyTo (m .gate) (lineIn (m .held)))) []
+abbrev pub textOfByte : InputState → ℕ → List ℕ
+textOfByte m b = cond (eqb b 0x0A) (replyText (replyTo (m .gate) (lineIn (m .held)))) []
 
 unfoldable pub inputAfter : InputState → List ℕ → InputState
 inputAfter m [] = m
 inputAfter m (b ∷ s) = inputAfter (inputAfterByte m b) s
 
-unfoldable pub textAfter : InputState → List ℕ → List ℕ
-textAfter m [] = []
-textAfter m (b ∷ s) = textAfterByte m b ++ textAfter (inputAfterByte m b) s
+unfoldable pub textOfInput : InputState → List ℕ → List ℕ
+textOfInput m [] = []
+textOfInput m (b ∷ s) = textOfByte m b ++ textOfInput (inputAfterByte m b) s
 
 -- At the end of the input: a line without 0A, where it has a byte.
 unfoldable pub lastGate : InputState → Gate
@@ -75,7 +75,7 @@ lastText m = cond (eqb (length (m .held)) 0) [] (replyText (replyTo (m .gate) (l
 
 -- ---- how the code holds a line
 
--- The part of a block that a turn takes: from a place on, to the first 0A with it, or to the end.
+-- The part of a block that is fed at once: from a place on, to the first 0A with it, or to the end.
 unfoldable pub partFrom : List ℕ → ℕ → ℕ → List ℕ
 partFrom block from used = take (used - from) (drop from block)
 
@@ -86,7 +86,7 @@ heldAfter held n = held + min n (mostHeld - held)
 unfoldable pub lineAfter : List ℕ → ℕ → List ℕ → ℕ → ℕ → List ℕ
 lineAfter line held block from n = written line held (min n (mostHeld - held)) (λ j. getD block (from + j) 0)
 
--- The places after a turn from place `from` of a block on, to the first 0A or to the end: how far the block is used, how many bytes are held, the line's buffer, and the
+-- The places after the part from place `from` of a block on, to the first 0A or to the end: how far the block is used, how many bytes are held, the line's buffer, and the
 -- cards with their count. A 0A ends the line, which is carried out, and nothing is held.
 unfoldable pub placesAfter : State → ℕ → List ℕ → List ℕ → List ℕ → ℕ → ℕ × ℕ × List ℕ × (ℕ × List ℕ)
 placesAfter st held cards line block from =

@@ -11,7 +11,7 @@ ghost use Prim.Native.Nat.{_+_, _-_, _≤_, _<_};
 ghost use lib.ListN.{length, take};
 ghost use Rattle.gate_lines.specs.Line.{lineIn};
 ghost use Rattle.gate_lines.specs.Gate.{gateOf, gateAfter, replyTo, cardsAfter, textIn, TextFits};
-ghost use Rattle.gate_lines.specs.Input.{mostHeld, inputStateOf, inputAfter, textAfter, lastGate, lastText, partFrom, heldAfter, lineAfter, placesAfter, lastCards};
+ghost use Rattle.gate_lines.specs.Input.{mostHeld, inputStateOf, inputAfter, textOfInput, lastGate, lastText, partFrom, heldAfter, lineAfter, placesAfter, lastCards};
 
 // How many bytes of a line are held, `mostHeld` in the definitions: one more than a line may have, so that a longer line is told from a whole one.
 pub const HELD: usize = LONGEST + 1;
@@ -84,7 +84,7 @@ impl State {
         from: usize,
     ) -> LineFed
         ensures state { λ r. ⌜ inputStateOf (r .state) (r .held) (now (cards .exit)) (now (object .exit)) (now (line .exit)) ≡ inputAfter (inputStateOf self held (now (cards .entry)) (now (object .entry)) (now (line .entry))) (partFrom (now (block .entry)) from (r .used)) ⌝ }
-        ensures prints { λ r. ⌜ textIn (r .text) ≡ textAfter (inputStateOf self held (now (cards .entry)) (now (object .entry)) (now (line .entry))) (partFrom (now (block .entry)) from (r .used)) ⌝ }
+        ensures prints { λ r. ⌜ textIn (r .text) ≡ textOfInput (inputStateOf self held (now (cards .entry)) (now (object .entry)) (now (line .entry))) (partFrom (now (block .entry)) from (r .used)) ⌝ }
         ensures places { λ r. ⌜ (r .used, r .held, now (line .exit), (r .state .cards, now (cards .exit))) ≡ placesAfter self held (now (cards .entry)) (now (line .entry)) (now (block .entry)) from ⌝ }
         ensures onward { λ r. ⌜ (from < length (now (block .entry)) → (from < r .used) × (r .used ≤ length (now (block .entry)))) ⌝ }
         ensures fits { λ r. ⌜ TextFits (r .text) 0 ⌝ }

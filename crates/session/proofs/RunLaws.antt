@@ -63,12 +63,12 @@ number-is r m (Call.verdict kind yesNo fascn) i = verdict-refused r m kind yesNo
 number-is r m (Call.field object tag) i = refl
 number-is r m (Call.stamp out) i = stamp-number r m (length out) i
 
--- ---- where a call leads
+-- ---- what a call leaves
 
-answer-leads : (k : ℕ) (x y : Session) (m₁ m₂ m : List ℕ) (r₁ r₂ : Reading) (b : Bool) → (b ≡ true → StandsFor x m₁ r₁) → StandsFor y m r₂
+answer-stands : (k : ℕ) (x y : Session) (m₁ m₂ m : List ℕ) (r₁ r₂ : Reading) (b : Bool) → (b ≡ true → StandsFor x m₁ r₁) → StandsFor y m r₂
     → StandsFor ((cond {A = ℕ × Session} b (0, x) (k, y)) .1) (cond b (cond b m₁ m₂) m) (cond b r₁ r₂)
-answer-leads k x y m₁ m₂ m r₁ r₂ true f g = f refl
-answer-leads k x y m₁ m₂ m r₁ r₂ false f g = g
+answer-stands k x y m₁ m₂ m r₁ r₂ true f g = f refl
+answer-stands k x y m₁ m₂ m r₁ r₂ false f g = g
 
 pub on-call : (r : Reading) (m : List ℕ) (c : Call) → Invariant r m → LentNow (host-of r m) c → HostStandsFor (hostAfter (host-of r m) c) (read r (argumentsOf c))
 unfolding read answerOf answerBuffer stampAnswer
@@ -78,7 +78,7 @@ on-call r m (Call.command out) i l =
 on-call r m (Call.answer object bytes cancelled) i l =
     let k = answerRefused r (length object) (length bytes) in
     rw (answer-number r m (length object) (length bytes) i)
-    (answer-leads _ _ _ _ _ m _ _ (eqb k 0) (λ e. own (eqb-true k 0 e)) (stays r m i))
+    (answer-stands _ _ _ _ _ m _ _ (eqb k 0) (λ e. own (eqb-true k 0 e)) (stays r m i))
   where
     own : answerRefused r (length object) (length bytes) ≡ 0
         → StandsFor (answerTakenSession (session-of r) object (dataOf bytes) (statusBytes bytes) cancelled) (answerTakenBuffer (session-of r) object (dataOf bytes) (statusBytes bytes)) (answerTaken r (dataOf bytes) (statusBytes bytes) cancelled)

@@ -79,9 +79,9 @@ impl Values {
             & good_aid(self.aid_len);
         let cause = (self.cause == 0) | tables::ends(self.cause);
         let step = (self.step <= 3) & (!(self.step == 2) | tables::has_step2(self.mode));
-        let turn = !self.outstanding | ((self.step <= 2) & (self.cause == 0));
+        let sent = !self.outstanding | ((self.step <= 2) & (self.cause == 0));
         let progress = (step & (self.filled <= tables::capacity(self.mode, self.step)))
-            & (cause & turn);
+            & (cause & sent);
         let card = expiry_in_range(self.expiry) & self.inside;
         !((opening & progress) & (outcomes_in_range(o) & card))
     }

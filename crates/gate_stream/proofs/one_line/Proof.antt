@@ -1,4 +1,4 @@
--- `gate_stream::one_line` meets its contract: it is a turn of the program. Assumes nothing.
+-- `gate_stream::one_line` meets its contract: the next part of the block is fed. Assumes nothing.
 use borrow.Author.Needs.{needs}
 use Rattle.gate_stream.proofs.one_line.Statement.{statement}
 use Rattle.gate_stream.proofs.one_line.Tie as tie

@@ -4,14 +4,14 @@ use native.Mathlib.Omega.{arith}
 use borrow.Author.Needs.{needs}
 use Rattle.gate_lines.specs.Gate.{gateOf}
 use Rattle.gate_lines.specs.Input.{inputStateOf}
-use Rattle.gate_lines.proofs.FeedLaws.{none-turn, run-turn, line-turn, none-places, run-places, line-places}
+use Rattle.gate_lines.proofs.FeedLaws.{none-fed, run-fed, line-fed, none-places, run-places, line-places}
 use Rattle.gate_lines.proofs.state.State.feed_line.Statement.{statement}
 use Rattle.gate_lines.proofs.state.State.feed_line.Tie as tie
 
 returns : tie.Need-returns
 returns c =
     let a = c .before .before .before .before .args in
-    let e = none-turn (inputStateOf (a .self) (a .held) (a .cards .now) (a .object .now) (a .line .now)) (a .block .now) (a .from) in
+    let e = none-fed (inputStateOf (a .self) (a .held) (a .cards .now) (a .object .now) (a .line .now)) (a .block .now) (a .from) in
     (e .0, (c .no-text .ensures .0 ∙ e .1, (none-places (a .self) (a .held) (a .cards .now) (a .line .now) (a .block .now) (a .from) (c .before .if1 .taken), ((λ h. absurd (omega (arith, h, c .before .if1 .taken))), c .no-text .ensures .1))))
 
 hold-requires : tie.Need-hold-requires
@@ -23,7 +23,7 @@ returns-2 c =
     let g = gateOf (a .self) (a .cards .now) (a .object .now) in
     let at = c .before .before .before .before .before .before .before .before .before .before .before .before .find in
     let e =
-    line-turn g _ (a .line .now) _ (a .held) _ (a .block .now) (a .from) (at .result) _ _ (omega arith) (at .ensures .0) (c .before .before .before .before .before .before .before .before .before .if2 .taken) (c .before .before .before .before .before .before .before .before .before .before .hold .ensures .0) (c .before .before .before .before .before .before .before .before .before .before .hold .ensures .1)
+    line-fed g _ (a .line .now) _ (a .held) _ (a .block .now) (a .from) (at .result) _ _ (omega arith) (at .ensures .0) (c .before .before .before .before .before .before .before .before .before .if2 .taken) (c .before .before .before .before .before .before .before .before .before .before .hold .ensures .0) (c .before .before .before .before .before .before .before .before .before .before .hold .ensures .1)
     (c .before .before .before .before .line-done .ensures .0) (c .before .before .before .before .line-done .ensures .1 .0) (c .text .ensures .0) in
     let places =
     line-places (a .self) (a .held) _ (a .cards .now) (a .line .now) _ (a .block .now) (a .from) (at .result) _ (at .ensures .0) (c .before .before .before .before .before .before .before .before .before .if2 .taken) (c .before .before .before .before .before .before .before .before .before .before .hold .ensures .0) (c .before .before .before .before .before .before .before .before .before .before .hold .ensures .1) (c .before .before .before .before .line-done .ensures .1 .1) in
@@ -34,7 +34,7 @@ returns-3 c =
     let a = c .before .before .before .before .before .before .before .before .args in
     let g = gateOf (a .self) (a .cards .now) (a .object .now) in
     let at = c .before .before .before .before .find in
-    let e = run-turn g (a .line .now) _ (a .held) _ (a .block .now) (a .from) (at .result) (omega arith) (at .ensures .0) (at .ensures .1 (omega arith)) (c .before .before .hold .ensures .0) (c .before .before .hold .ensures .1) in
+    let e = run-fed g (a .line .now) _ (a .held) _ (a .block .now) (a .from) (at .result) (omega arith) (at .ensures .0) (at .ensures .1 (omega arith)) (c .before .before .hold .ensures .0) (c .before .before .hold .ensures .1) in
     let places = run-places (a .self) (a .held) _ (a .cards .now) (a .line .now) _ (a .block .now) (a .from) (at .result) (at .ensures .0) (c .before .if2 .left) (c .before .before .hold .ensures .0) (c .before .before .hold .ensures .1) in
     (e .0, (c .no-text2 .ensures .0 ∙ e .1, (places, ((λ h. (omega (arith, c .before .if2 .left, h), at .ensures .1 (omega arith))), c .no-text2 .ensures .1))))
 
