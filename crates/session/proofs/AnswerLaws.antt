@@ -12,7 +12,7 @@ use Rattle.card.specs.Lists.{overPlaces}
 use Rattle.card.specs.Command.{statusOf}
 use Rattle.card.specs.declared.command.Status.{Status}
 use Rattle.card.specs.declared.command.Status.the-variants.{Done, More, Other}
-use Rattle.session.specs.Tables.{baseOf, capacity, objectSize, isResponse, joinedCause}
+use Rattle.session.specs.Tables.{statusCause, baseOf, capacity, objectSize, isResponse, joinedCause}
 use Rattle.session.specs.Condition.{answerConditions}
 use Rattle.session.specs.Reading.{Found, Reading, withProgress, answerRefused, stopped, continued, judged, appended, causeBy, answerTaken}
 use Rattle.session.specs.Ranges.{causeInRange}
@@ -69,7 +69,7 @@ judges r m m′ xs cancelled i l lt small b held =
     let k = joinedCause (r .opening .mode) (r .progress .step) xs in
     by-test (λ (s : Session) (q : Reading). StandsFor s m′ q) _ _ _ _ (eqb (joinedCause (r .opening .mode) (r .progress .step) xs) 0)
     (λ e. good-end r m m′ xs cancelled i l lt small b held (eqb-true _ 0 e))
-    (λ e. stops r m m′ xs k 0 0 i l lt small b held (joined-in-range (r .opening .mode) (r .progress .step) xs) (shown-none (eqb k 16)) (shown-none (eqb k 16)))
+    (λ e. stops r m m′ xs k 0 0 i l lt small b held (joined-in-range (r .opening .mode) (r .progress .step) xs) (shown-none (eqb k statusCause)) (shown-none (eqb k statusCause)))
 
 -- ---- what an answer that is taken leaves in the buffer
 
@@ -161,7 +161,7 @@ takes-answer r m xs status cancelled i size lt b =
     rw (next-same (r .progress .next))
     (both _ _ _ _ _ _ (eqb k 0)
     (λ e. appends r m xs i size lt (rule-fits st (isResponse (r .progress .next)) (length xs) (length (r .progress .joined)) most (eqb-true k 0 e)) b st cancelled)
-    (λ e. stops r m m (r .progress .joined) k _ _ i (leaves-same r m i size) lt (i .progress-good .filled) (i .progress-good .bytes) (i .held) (rule-in-range st (isResponse (r .progress .next)) (length xs) (length (r .progress .joined)) most) (shown-once (eqb k 16) (getD status 0 0)) (shown-once (eqb k 16) (getD status 1 0))))
+    (λ e. stops r m m (r .progress .joined) k _ _ i (leaves-same r m i size) lt (i .progress-good .filled) (i .progress-good .bytes) (i .held) (rule-in-range st (isResponse (r .progress .next)) (length xs) (length (r .progress .joined)) most) (shown-once (eqb k statusCause) (getD status 0 0)) (shown-once (eqb k statusCause) (getD status 1 0))))
 
 -- ---- the call
 

@@ -12,7 +12,7 @@ use borrow.Author.Tests.{ltb-true, ltb-false, lt-ltb, le-ltb, eqb-true, eqb-fals
 use Rattle.card.specs.Command.{statusOf}
 use Rattle.card.specs.declared.command.Status.{Status}
 use Rattle.card.specs.declared.command.Status.the-variants.{Done, More, Other}
-use Rattle.session.specs.Tables.{ends, hasStep2, capacity, answersMost, isResponse, dataOf, statusBytes, ruleCause, joinedCause}
+use Rattle.session.specs.Tables.{statusCause, emptyCause, fullCause, ends, hasStep2, capacity, answersMost, isResponse, dataOf, statusBytes, ruleCause, joinedCause}
 use Rattle.session.specs.Ranges.{causeInRange}
 use Rattle.session.specs.Condition.{commandConditions, answerConditions}
 use Rattle.session.specs.Reading.{Opening, Arguments, Progress, Reading, begins, atStep, nextCommand, commandRefused, sending, answerRefused, stopped, continued, step1End, step2End, goodEnd, judged, appended, causeBy, answerTaken, verdictRefused, verdictTaken, refusedBy, read, takes, answersIn, answers}
@@ -136,7 +136,7 @@ rule-brings : (second : ℕ) (response : Bool) (n total most : ℕ) → ruleCaus
     → (cond response (total + 1) 0 < total + n + 1) × (total + n ≤ most)
 unfolding ruleCause
 rule-brings second response n total most e =
-    let f = none-fit ((16, false) ∷ (17, eqb n 0 && response) ∷ (18, ltb most (total + n)) ∷ []) refl e in
+    let f = none-fit ((statusCause, false) ∷ (emptyCause, eqb n 0 && response) ∷ (fullCause, ltb most (total + n)) ∷ []) refl e in
     (go (eqb n 0) response refl (f .1 .0), ltb-false most (total + n) (f .1 .1 .0))
   where
     go : (x y : Bool) → eqb n 0 ≡ x → x && y ≡ false → cond y (total + 1) 0 < total + n + 1

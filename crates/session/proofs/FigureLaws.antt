@@ -11,7 +11,7 @@ use Rattle.session.proofs.TestLaws.{either}
 -- what a step may hold fits the object buffer
 pub base-fits : (mode step : ℕ) → baseOf step + capacity mode step ≤ objectSize
 unfolding baseOf capacity objectSize
-base-fits mode step = either (λ (n : ℕ). n + 4096 ≤ 8192) (eqb step 2) (omega arith) (omega arith)
+base-fits mode step = either (λ (n : ℕ). n + capacity mode step ≤ objectSize) (eqb step 2) (omega arith) (omega arith)
 
 pub base-inside : (step : ℕ) → baseOf step ≤ objectSize
 base-inside step = let fits = base-fits 0 step in omega (arith, fits)

@@ -13,7 +13,7 @@ use lib.Seq.{getD-set-same, getD-set-other}
 use Rattle.card.specs.Object.{expiryTag, objectOf, fieldValue}
 use Rattle.card.specs.Fascn.{unpackOf}
 use Rattle.card.specs.Date.{dateOf}
-use Rattle.session.specs.Tables.{checkServed, outcomeOf, expiryOutcome, listOutcome, judgedOutcomes, hasStep2, kindAt, stepAfter, baseOf, capacity, objectSize, fascnRead, keyRead, expiryRead, objectCause, joinedCause}
+use Rattle.session.specs.Tables.{checks, malformedCause, fascnCause, dateCause, checkServed, outcomeOf, expiryOutcome, listOutcome, judgedOutcomes, hasStep2, kindAt, stepAfter, baseOf, capacity, objectSize, fascnRead, keyRead, expiryRead, objectCause, joinedCause}
 use Rattle.session.specs.Reading.{Opening, StepOne, Verdict, Found, Reading, withProgress, atStep, step1End, step2End, goodEnd, ownFascn}
 use Rattle.session.specs.Finding.{verdictOn}
 use Rattle.session.specs.Ranges.{stepInRange}
@@ -55,7 +55,7 @@ unfolding joinedCause objectCause
 one-good mode xs cancelled b e =
     let u = unpackOf (fascnRead mode xs) .0 in
     let d = dateOf (fieldValue (kindAt mode 1) expiryTag xs) .0 in
-    let c = none-fit ((20, not (eqb (objectOf (kindAt mode 1) xs .0) 0)) ∷ (21, not (eqb u 0)) ∷ (22, not (eqb d 0)) ∷ []) refl e in
+    let c = none-fit ((malformedCause, not (eqb (objectOf (kindAt mode 1) xs .0) 0)) ∷ (fascnCause, not (eqb u 0)) ∷ (dateCause, not (eqb d 0)) ∷ []) refl e in
     record { object = eqb-true _ 0 (not-false _ (c .0)); fascn = eqb-true u 0 (not-false _ (c .1 .0)); date = eqb-true d 0 (not-false _ (c .1 .1 .0)); bytes = b }
 
 -- what no verdict gave waits on, whatever FASC-N is then read
@@ -68,7 +68,7 @@ waits-on kind needed own own′ v o o′ n e (VerdictGave.taken yesNo f p q h z)
     is (Option.some x) = true
 
 -- the two outcomes that step 1's good end sets
-module _ (o : List ℕ) (a b : ℕ) (six : length o ≡ 6) where
+module _ (o : List ℕ) (a b : ℕ) (six : length o ≡ checks) where
   set-other : (i : ℕ) → (i ≡ 2 → ⊥) → (i ≡ 3 → ⊥) → getD (set (set o 2 a) 3 b) i 0 ≡ getD o i 0
   set-other i h k = getD-set-other (set o 2 a) 3 i b 0 k ∙ getD-set-other o 2 i a 0 h
 
@@ -87,7 +87,7 @@ unfolding verdictOn
 one-judged o old f xs cancelled n j =
     let a = expiryOutcome (o .date) (expiryRead (o .mode) xs) in
     let b = listOutcome (keyRead (o .mode) xs) cancelled in
-    let six : length (set old 2 a) ≡ 6 = length-set old 2 a ∙ j .six in
+    let six : length (set old 2 a) ≡ checks = length-set old 2 a ∙ j .six in
     record {
       six = length-set (set old 2 a) 3 b ∙ six;
       small = set-in-range (set old 2 a) 3 b (omega (arith, six)) (list-small (keyRead (o .mode) xs) cancelled) (set-in-range old 2 a (omega (arith, j .six)) (expiry-small (o .date) (expiryRead (o .mode) xs)) (j .small));

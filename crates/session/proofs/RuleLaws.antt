@@ -8,11 +8,11 @@ use borrow.Author.Tests.{ltb-false}
 use lib.Dec.{eqb, ltb}
 use Rattle.card.specs.Fascn.{unpackOf}
 use Rattle.card.specs.Tlv.{onlyOf}
-use Rattle.card.specs.Template.{templateOf, goodFrom}
+use Rattle.card.specs.Template.{templateTag, templateOf, goodFrom}
 use Rattle.card.specs.Object.{expiryTag, objectOf, fieldValue}
 use Rattle.card.specs.Date.{dateOf}
 use Rattle.card.specs.declared.command.Status.{Status}
-use Rattle.session.specs.Tables.{kindAt, fascnRead, isOther, isMore, ruleCause, objectCause, joinedCause}
+use Rattle.session.specs.Tables.{statusCause, emptyCause, fullCause, malformedCause, fascnCause, dateCause, kindAt, fascnRead, isOther, isMore, ruleCause, objectCause, joinedCause}
 use Rattle.session.specs.Ranges.{causeInRange}
 use Rattle.session.proofs.TestLaws.{either}
 use Rattle.session.proofs.ConditionLaws.{none-fit}
@@ -24,21 +24,21 @@ InRange k = causeInRange k ≡ true
 pub rule-in-range : (status : Status) (response : Bool) (n total most : ℕ) → causeInRange (ruleCause status response n total most) ≡ true
 unfolding ruleCause
 rule-in-range status response n total most =
-    either InRange (isOther status) {x = 16} refl
-    (either InRange ((isMore status && eqb n 0) && response) {x = 17} refl (either InRange (ltb most (total + n)) {x = 18} {y = 0} refl refl))
+    either InRange (isOther status) {x = statusCause} refl
+    (either InRange ((isMore status && eqb n 0) && response) {x = emptyCause} refl (either InRange (ltb most (total + n)) {x = fullCause} {y = 0} refl refl))
 
 -- data that is appended has room in its step
 pub rule-fits : (status : Status) (response : Bool) (n total most : ℕ) → ruleCause status response n total most ≡ 0 → total + n ≤ most
 unfolding ruleCause
 rule-fits status response n total most e =
-    let f = none-fit ((16, isOther status) ∷ (17, (isMore status && eqb n 0) && response) ∷ (18, ltb most (total + n)) ∷ []) refl e in
+    let f = none-fit ((statusCause, isOther status) ∷ (emptyCause, (isMore status && eqb n 0) && response) ∷ (fullCause, ltb most (total + n)) ∷ []) refl e in
     ltb-false most (total + n) (f .1 .1 .0)
 
 -- what the judging of joined data gives is a cause, or 0
 pub joined-in-range : (mode step : ℕ) (joined : List ℕ) → causeInRange (joinedCause mode step joined) ≡ true
 unfolding joinedCause templateOf objectCause
 joined-in-range mode step joined =
-    either InRange (eqb step 0) (either InRange (goodFrom (onlyOf 0x61 joined) joined) {x = 0} {y = 19} refl refl)
-    (either InRange (not (eqb (objectOf (kindAt mode step) joined .0) 0)) {x = 20} refl
-    (either InRange (eqb step 1 && not (eqb (unpackOf (fascnRead mode joined) .0) 0)) {x = 21} refl
-    (either InRange (eqb step 1 && not (eqb (dateOf (fieldValue (kindAt mode 1) expiryTag joined) .0) 0)) {x = 22} {y = 0} refl refl)))
+    either InRange (eqb step 0) (either InRange (goodFrom (onlyOf templateTag joined) joined) {x = 0} {y = 19} refl refl)
+    (either InRange (not (eqb (objectOf (kindAt mode step) joined .0) 0)) {x = malformedCause} refl
+    (either InRange (eqb step 1 && not (eqb (unpackOf (fascnRead mode joined) .0) 0)) {x = fascnCause} refl
+    (either InRange (eqb step 1 && not (eqb (dateOf (fieldValue (kindAt mode 1) expiryTag joined) .0) 0)) {x = dateCause} {y = 0} refl refl)))

@@ -17,16 +17,18 @@ use Rattle.session.proofs.state.Session.field.Tie as tie
 
 -- the tests of the code are the definition's
 tests : (c : tie.After-out-of-range) {b : Bool} → let a = c .before .before .before .before .before .args in
-    c .out-of-range .result || (not (eqb (length (a .object .now)) 8192) || (eqb (c .before .before .before .step-of-tag .result) 0 || not (c .before .before .step-read .result))) ≡ b
+    c .out-of-range .result || (not (eqb (length (a .object .now)) objectSize) || (eqb (c .before .before .before .step-of-tag .result) 0 || not (c .before .before .step-read .result))) ≡ b
     → outOfRange (a .self) || fieldRefused (a .self .opening .mode) (a .self .progress .step) (length (a .object .now)) (a .tag) ≡ b
 unfolding objectSize
 tests c e = rw (← values-say _ (c .before .values .ensures) (c .out-of-range .ensures), ← c .before .before .before .step-of-tag .ensures, ← c .before .before .step-read .ensures) e
 
 returns : tie.Need-returns
+unfolding objectSize
 returns c = let a = c .before .before .before .before .before .before .before .args in field-both _ _ _ _ (field-refused (a .self) (a .object .now) (a .tag) (tests (c .before .before) (c .before .if1 .taken)))
 
 -- past the tests: the session is in range, the buffer has its size
 accepted : (c : tie.After-base-of) → let a = c .before .before .before .before .before .before .before .before .args in (inRange (a .self) ≡ true) × (length (a .object .now) ≡ objectSize)
+unfolding objectSize
 accepted c = let a = c .before .before .before .before .before .before .before .before .args in field-accepted (a .self) (length (a .object .now)) (a .tag) (tests (c .before .before .before) (c .before .before .if1 .left))
 
 -- and the part ends inside it
@@ -45,6 +47,7 @@ part-result-end : tie.Need-part-result-end
 part-result-end c = omega (arith, ends (c .before .before))
 
 returns-2 : tie.Need-returns-2
+unfolding objectSize
 returns-2 c =
     let at = c .before .before .before in
     let a = c .before .before .before .before .before .before .before .before .before .before .before .args in
