@@ -61,7 +61,7 @@ pub(crate) fn needs(mode: u8, check: u8) -> bool
 }
 
 // The check that a verdict kind serves.
-pub(crate) fn check_of(kind: u8) -> u8
+pub(crate) fn check_served(kind: u8) -> u8
     ensures is { λ r. ⌜ r ≡ checkServed kind ⌝ }
     ensures place { λ r. ⌜ (1 ≤ r) × (r ≤ checks) ⌝ }
 {

@@ -48,7 +48,7 @@ impl Session {
         if well.number() != 0 {
             return Reply::WrongFascn;
         }
-        let check = tables::check_of(kind);
+        let check = tables::check_served(kind);
         if !tables::needs(self.opening.mode, check) {
             return Reply::NotNeeded;
         }
@@ -67,7 +67,7 @@ impl Session {
         let own = card.fascn;
         let outcome = verdict_outcome(&own, yes, fascn);
         let before = self.outcomes;
-        let check = tables::check_of(kind);
+        let check = tables::check_served(kind);
         let outcomes = tables::with_outcome(before, check, outcome);
         let mut s = self;
         s.outcomes = outcomes;

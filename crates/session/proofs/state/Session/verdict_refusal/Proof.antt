@@ -46,13 +46,13 @@ past-fascn : (c : tie.Else5) → let a = c .before .before .before .before .befo
 past-fascn c = rw (past-step (c .before .before .before .before .before .before)) (simp (sym (c .before .before .before .before .before .good-kind .ensures), c .before .before .before .before .if3 .left, c .before .before .before .if4 .left, number-is (c .before), eq-eqb _ _ (c .if5 .left)))
 
 returns-6 : tie.Need-returns-6
-returns-6 c = rw (past-fascn (c .before .before .before)) (simp (sym (c .before .before .check-of .ensures .0), sym (c .before .needs .ensures), c .if6 .taken))
+returns-6 c = rw (past-fascn (c .before .before .before)) (simp (sym (c .before .before .check-served .ensures .0), sym (c .before .needs .ensures), c .if6 .taken))
 
 returns-7 : tie.Need-returns-7
-returns-7 c = rw (past-fascn (c .before .before .before .before .before .before)) (simp (sym (c .before .before .before .before .before .check-of .ensures .0), sym (c .before .before .before .before .needs .ensures), c .before .before .before .if6 .left, sym (c .before .outcome-of .ensures), ne-eqb _ _ (c .if7 .taken)))
+returns-7 c = rw (past-fascn (c .before .before .before .before .before .before)) (simp (sym (c .before .before .before .before .before .check-served .ensures .0), sym (c .before .before .before .before .needs .ensures), c .before .before .before .if6 .left, sym (c .before .outcome-of .ensures), ne-eqb _ _ (c .if7 .taken)))
 
 returns-8 : tie.Need-returns-8
-returns-8 c = rw (past-fascn (c .before .before .before .before .before .before)) (simp (sym (c .before .before .before .before .before .check-of .ensures .0), sym (c .before .before .before .before .needs .ensures), c .before .before .before .if6 .left, sym (c .before .outcome-of .ensures), eq-eqb _ _ (c .if7 .left)))
+returns-8 c = rw (past-fascn (c .before .before .before .before .before .before)) (simp (sym (c .before .before .before .before .before .check-served .ensures .0), sym (c .before .before .before .before .needs .ensures), c .before .before .before .if6 .left, sym (c .before .outcome-of .ensures), eq-eqb _ _ (c .if7 .left)))
 
 pub verdict-refusal-spec : {M : Type 1} → statement M
 verdict-refusal-spec =

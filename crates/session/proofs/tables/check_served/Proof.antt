@@ -1,9 +1,9 @@
--- `session::tables::check_of` meets its contract: by the kind. Assumes nothing.
+-- `session::tables::check_served` meets its contract: by the kind. Assumes nothing.
 use borrow.Author.Tests.{eq-eqb, ne-eqb}
 use native.Mathlib.Omega.{arith}
 use Rattle.session.specs.Tables.{checkServed}
-use Rattle.session.proofs.tables.check_of.Statement.{statement}
-use Rattle.session.proofs.tables.check_of.Tie as tie
+use Rattle.session.proofs.tables.check_served.Statement.{statement}
+use Rattle.session.proofs.tables.check_served.Tie as tie
 
 returns : tie.Need-returns
 unfolding checkServed
@@ -21,5 +21,5 @@ returns-4 : tie.Need-returns-4
 unfolding checkServed
 returns-4 c = (simp (ne-eqb _ _ (c .before .before .if1 .left), ne-eqb _ _ (c .before .if2 .left), ne-eqb _ _ (c .if3 .left)), omega arith)
 
-pub check-of-spec : {M : Type 1} → statement M
-check-of-spec = tie.close (tie.spec returns returns-2 returns-3 returns-4)
+pub check-served-spec : {M : Type 1} → statement M
+check-served-spec = tie.close (tie.spec returns returns-2 returns-3 returns-4)
