@@ -37,9 +37,9 @@ module _ (m n a b : ℕ) (same : m * a ≡ n * b) (s : List ℕ) (g : ℕ) where
       bit : (k t : ℕ) → t < m → bitOf m s (m * (a * g) + (m * k + t)) ≡ getD s (a * g + k) 0 / 2 ^ (m - suc t) % 2
       bit k t l = rw (← add-assoc, ← mul-add) (bit-at m s (a * g + k) t l)
 
-  pub recut-digit : (j : ℕ) → j < b → number (2 ^ m) a (λ k. getD s (a * g + k) 0 % 2 ^ m) / 2 ^ (n * (b - 1 - j)) % 2 ^ n ≡ regrouped m n s (b * g + j)
+  pub regrouped-digit : (j : ℕ) → j < b → number (2 ^ m) a (λ k. getD s (a * g + k) 0 % 2 ^ m) / 2 ^ (n * (b - 1 - j)) % 2 ^ n ≡ regrouped m n s (b * g + j)
   unfolding regrouped
-  recut-digit j h =
+  regrouped-digit j h =
       let f : ℕ → ℕ = λ q. bitOf m s (m * (a * g) + q) in
       let r : b - 1 - j ≡ b - suc j = omega arith in
       rw (joined, same, ← number-group 2 n b f, r, ← pow-mul 2 n (b - suc j))
@@ -50,10 +50,10 @@ module _ (m n a b : ℕ) (same : m * a ≡ n * b) (s : List ℕ) (g : ℕ) where
       place t = rw (mul-add, ← mul-assoc m a g, same, mul-assoc n b g, add-assoc)
 
   -- a turn of a loop over the groups: the numbers of group g, joined as w, are written after those of the groups before
-  pub recut-turn : (l : List ℕ) {c c′ : List ℕ} {w : ℕ} → w ≡ number (2 ^ m) a (λ k. getD s (a * g + k) 0 % 2 ^ m) → c ≡ written l 0 (b * g) (regrouped m n s)
+  pub regrouped-back : (l : List ℕ) {c c′ : List ℕ} {w : ℕ} → w ≡ number (2 ^ m) a (λ k. getD s (a * g + k) 0 % 2 ^ m) → c ≡ written l 0 (b * g) (regrouped m n s)
       → c′ ≡ written c (b * g) b (λ j. w / 2 ^ (n * (b - 1 - j)) % 2 ^ n) → c′ ≡ written l 0 (b * (g + 1)) (regrouped m n s)
-  recut-turn l p q r =
-      r ∙ rw (p, q, mul-add, mul-one) (written-ext (written l 0 (b * g) (regrouped m n s)) (b * g) b recut-digit ∙ written-on l (b * g) b (regrouped m n s))
+  regrouped-back l p q r =
+      r ∙ rw (p, q, mul-add, mul-one) (written-ext (written l 0 (b * g) (regrouped m n s)) (b * g) b regrouped-digit ∙ written-on l (b * g) b (regrouped m n s))
 
 -- ---- characters and their bits
 

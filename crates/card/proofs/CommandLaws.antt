@@ -11,14 +11,14 @@ use lib.ListN.{length, length-append}
 use Rattle.card.specs.Lists.{overFront}
 use Rattle.card.specs.Refusal.{refusalOf}
 use Rattle.card.specs.Object.{objectTag}
-use Rattle.card.specs.Command.{selectBytes, getDataBytes, getResponseBytes, commandWritten, aidLeast, aidMost, aidRefused, tooShort, selectOf, getDataOf, getResponseOf}
+use Rattle.card.specs.Command.{selectBeside, selectBytes, getDataBytes, getResponseBytes, commandWritten, aidLeast, aidMost, aidRefused, tooShort, selectOf, getDataOf, getResponseOf}
 use Rattle.card.specs.declared.object.Kind.{Kind}
 use Rattle.card.specs.declared.object.Kind.the-variants.{Signed, Unsigned, Fingers}
 
 -- ---- the lengths of the commands
 
 -- SELECT is the AID and six bytes more
-pub select-length : (aid : List ℕ) → length (selectBytes aid) ≡ length aid + 6
+pub select-length : (aid : List ℕ) → length (selectBytes aid) ≡ length aid + selectBeside
 unfolding selectBytes
 select-length aid = rw length-append (omega arith)
 

@@ -10,7 +10,7 @@ use lib.Dec.{eqb, leb}
 use lib.ListN.{length, take, drop, replicate, length-drop}
 use lib.Seq.{take-append-le, drop-append-le}
 use Rattle.card.specs.Tlv.{headerOf, onlyOf}
-use Rattle.card.specs.Object.{dataObjectTag, fascnTag, guidTag, expiryTag, signatureTag, fingersTag, mostFields, field, empty, rowsOf, rowField, fieldsFrom, fieldsAnswer, objectFrom, objectOf, partIn, bytesAt, fieldPart, fieldValue, allowed, rowIn}
+use Rattle.card.specs.Object.{dataObjectTag, fascnTag, guidTag, expiryTag, signatureTag, fingersTag, mostFields, required, empty, rowsOf, rowField, fieldsFrom, fieldsAnswer, objectFrom, objectOf, partIn, bytesAt, fieldPart, fieldValue, allowed, rowIn}
 use Rattle.card.specs.declared.tlv.Header.{Header}
 use Rattle.card.specs.declared.tlv.Header.the-variants.{Whole, Malformed}
 use Rattle.card.specs.declared.object.Kind.{Kind}
@@ -186,16 +186,16 @@ or-left true e = refl
 or-left false e = e
 
 -- the field with a tag that has to be there, in a good object: it has a length between the least and the greatest
-pub length-between : (k : Kind) (s : List ℕ) (tag low high : ℕ) → rowIn (rowsOf k) tag ≡ field tag low high → objectOf k s .0 ≡ 0
+pub length-between : (k : Kind) (s : List ℕ) (tag low high : ℕ) → rowIn (rowsOf k) tag ≡ required tag low high → objectOf k s .0 ≡ 0
     → let n = fieldPart k tag s .len in (low ≤ n) × (n ≤ high)
 length-between k s tag low high r p =
     let n = fieldPart k tag s .len in
-    let fits : allowed (field tag low high) n ≡ true = rw r at (part-allowed k s tag p) in
+    let fits : allowed (required tag low high) n ≡ true = rw r at (part-allowed k s tag p) in
     let q = and-eq-true-iff (leb low n) (leb n high) .0 (or-left (leb low n && leb n high) fits) in
     (leb-true low n (q .0), leb-true n high (q .1))
 
 -- so where its row fixes the length, it has that length
-pub length-is : (k : Kind) (s : List ℕ) (tag n : ℕ) → rowIn (rowsOf k) tag ≡ field tag n n → objectOf k s .0 ≡ 0 → fieldPart k tag s .len ≡ n
+pub length-is : (k : Kind) (s : List ℕ) (tag n : ℕ) → rowIn (rowsOf k) tag ≡ required tag n n → objectOf k s .0 ≡ 0 → fieldPart k tag s .len ≡ n
 length-is k s tag n r p = let b = length-between k s tag n n r p in omega (arith, b .0, b .1)
 
 -- the lengths of the fields that have to be there, object by object

@@ -89,9 +89,9 @@ values-back (field n ∷ ps) i v p h =
 -- ---- the order of a FASC-N
 
 -- 39 characters before the check character, and 32 digits
-pub length-front : (d : List ℕ) → length (valuesFrom 0 order d) ≡ 39
+pub length-before-check : (d : List ℕ) → length (valuesFrom 0 order d) ≡ 39
 unfolding valuesFrom sliceOf listOf
-length-front d = refl
+length-before-check d = refl
 
 pub length-digits : (v : List ℕ) → length (digitsIn v) ≡ 32
 unfolding digitsFrom sliceOf listOf

@@ -2,7 +2,7 @@
 -- Assumes nothing.
 use mathlib.Core.Bool.{Bool, cond, not, _&&_}
 use mathlib.Core.List.{List, [], _∷_, _++_}
-use Prim.Native.Nat.{ℕ}
+use Prim.Native.Nat.{ℕ, _+_}
 use lib.Dec.{eqb, ltb, leb}
 use lib.ListN.{length, getD, take}
 use Rattle.card.specs.Lists.{overFront, sameBytes}
@@ -43,6 +43,13 @@ aidMost = 16
 
 abbrev pub goodAid : ℕ → Bool
 goodAid n = leb aidLeast n && leb n aidMost
+
+-- The bytes of SELECT beside its AID, and the most that a command has: SELECT with the longest AID.
+abbrev pub selectBeside : ℕ
+selectBeside = 6
+
+abbrev pub commandMost : ℕ
+commandMost = aidMost + selectBeside
 
 abbrev pub aidRefused : List ℕ → Bool
 aidRefused aid = not (goodAid (length aid))

@@ -45,14 +45,18 @@ spelled s = number 10 dateDigits (λ i. getD s i 0 % 16)
 unfoldable pub goodDate : List ℕ → Bool
 goodDate s = eqb (length s) dateDigits && all dateDigits (isDigitAt s) && realDate (spelled s)
 
--- Cause 0 and the number that they spell, or cause 22 and no number (0).
+-- "date ill-formed, 22"
+abbrev pub illFormedDate : ℕ
+illFormedDate = 22
+
+-- Cause 0 and the number that they spell, or that cause and no number (0).
 unfoldable pub dateOf : List ℕ → ℕ × ℕ
-dateOf s = cond (goodDate s) (0, spelled s) (22, 0)
+dateOf s = cond (goodDate s) (0, spelled s) (illFormedDate, 0)
 
 -- The answer of the code: document 01's cause of each case, and the number beside it.
 abbrev pub dateAnswer : Date → ℕ × ℕ
 dateAnswer (Real n) = (0, n)
-dateAnswer Unreal = (22, 0)
+dateAnswer Unreal = (illFormedDate, 0)
 
 -- ---- the order of days
 

@@ -7,6 +7,8 @@ use mathlib.Core.List.{List, [], _∷_, _++_}
 use Prim.Native.Nat.{ℕ, _+_, _-_, _≤_}
 use lib.Dec.{eqb, leb}
 use lib.ListN.{length, take, drop, replicate}
+use Rattle.card.specs.Fascn.{fascnBytes}
+use Rattle.card.specs.Date.{dateDigits}
 use Rattle.card.specs.Tlv.{headerOf, onlyOf, fitsForm, encoded}
 use Rattle.card.specs.declared.tlv.Header.{Header}
 use Rattle.card.specs.declared.tlv.Header.the-variants.{Whole, Malformed}
@@ -66,8 +68,8 @@ abbrev pub mayBeAbsent : Row → Bool
 mayBeAbsent r = r .3
 
 -- A field that has to be there, and one that may be absent.
-abbrev pub field : ℕ → ℕ → ℕ → Row
-field tag low high = record { 0 = tag; 1 = low; 2 = high; 3 = false }
+abbrev pub required : ℕ → ℕ → ℕ → Row
+required tag low high = record { 0 = tag; 1 = low; 2 = high; 3 = false }
 
 abbrev pub optional : ℕ → ℕ → ℕ → Row
 optional tag low high = record { 0 = tag; 1 = low; 2 = high; 3 = true }
@@ -76,9 +78,9 @@ optional tag low high = record { 0 = tag; 1 = low; 2 = high; 3 = true }
 -- 5FC104, unsigned (layout fixed here): 30 (25), 34 (16, may be absent), 35 (8), FE (0).
 -- DFC103, fingers: BC (1 to 862), FE (0, may be absent).
 unfoldable pub rowsOf : Kind → List Row
-rowsOf Signed = field fascnTag 25 25 ∷ field guidTag 16 16 ∷ field expiryTag 8 8 ∷ field signatureTag 1 2816 ∷ field endTag 0 0 ∷ []
-rowsOf Unsigned = field fascnTag 25 25 ∷ optional guidTag 16 16 ∷ field expiryTag 8 8 ∷ field endTag 0 0 ∷ []
-rowsOf Fingers = field fingersTag 1 862 ∷ optional endTag 0 0 ∷ []
+rowsOf Signed = required fascnTag fascnBytes fascnBytes ∷ required guidTag 16 16 ∷ required expiryTag dateDigits dateDigits ∷ required signatureTag 1 2816 ∷ required endTag 0 0 ∷ []
+rowsOf Unsigned = required fascnTag fascnBytes fascnBytes ∷ optional guidTag 16 16 ∷ required expiryTag dateDigits dateDigits ∷ required endTag 0 0 ∷ []
+rowsOf Fingers = required fingersTag 1 862 ∷ optional endTag 0 0 ∷ []
 
 -- The most fields that an object has. A layout has as many rows, and an answer as many parts.
 abbrev pub mostFields : ℕ
@@ -86,7 +88,7 @@ mostFields = 5
 
 -- How the code keeps them, no public contract cites this: the rows of an object and how many they are, filled up to the most with rows that are none of its.
 abbrev pub noRow : Row
-noRow = field 0 0 0
+noRow = required 0 0 0
 
 unfoldable pub layoutOf : Kind → Layout
 layoutOf k =
@@ -136,13 +138,17 @@ fieldsFrom v base (r ∷ rs) at =
 
 -- ---- the object
 
--- Cause 0 and the parts, those past the last field empty; or cause 20, and all parts empty.
+-- "object malformed, 20"
+abbrev pub malformedObject : ℕ
+malformedObject = 20
+
+-- Cause 0 and the parts, those past the last field empty; or that cause, and all parts empty.
 unfoldable pub fieldsAnswer : Bool × List Part → ℕ × List Part
-fieldsAnswer f = cond (f .0) (0, f .1 ++ replicate (mostFields - length (f .1)) empty) (20, replicate mostFields empty)
+fieldsAnswer f = cond (f .0) (0, f .1 ++ replicate (mostFields - length (f .1)) empty) (malformedObject, replicate mostFields empty)
 
 -- By the header of the one TLV 53 that s is: its value is handed to the fields, and parts are those of the whole.
 unfoldable pub objectFrom : Header → Kind → List ℕ → ℕ × List Part
-objectFrom Malformed k s = (20, replicate mostFields empty)
+objectFrom Malformed k s = (malformedObject, replicate mostFields empty)
 objectFrom (Whole tag nested start len) k s = fieldsAnswer (fieldsFrom (take len (drop start s)) start (rowsOf k) 0)
 
 -- What the object reader gives of the object s.
@@ -195,7 +201,7 @@ valueIn (r ∷ rs) (value ∷ values) tag = cond (eqb (rowTag r) tag) value (val
 
 abbrev pub objectNumber : ObjectAnswer → ℕ
 objectNumber object-answers.Accepted = 0
-objectNumber object-answers.Malformed = 20
+objectNumber object-answers.Malformed = malformedObject
 
 abbrev pub objectAnswer : Object → ℕ × List Part
 objectAnswer r = (objectNumber (r .answer), r .parts)

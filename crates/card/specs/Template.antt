@@ -92,14 +92,17 @@ unfoldable pub goodFrom : Header → List ℕ → Bool
 goodFrom Malformed s = false
 goodFrom (Whole tag nested start len) s = goodValue (take len (drop start s))
 
--- Cause 19 where the template is malformed, 0 where it is good.
+-- "template malformed, cause 19"; 0 where it is good.
+abbrev pub malformedTemplate : ℕ
+malformedTemplate = 19
+
 unfoldable pub templateOf : List ℕ → ℕ
-templateOf s = cond (goodFrom (onlyOf templateTag s) s) 0 19
+templateOf s = cond (goodFrom (onlyOf templateTag s) s) 0 malformedTemplate
 
 -- The answer of the code.
 abbrev pub templateNumber : TemplateAnswer → ℕ
 templateNumber template-answers.Accepted = 0
-templateNumber template-answers.Malformed = 19
+templateNumber template-answers.Malformed = malformedTemplate
 
 -- ---- how the code goes about it; no public contract cites this
 

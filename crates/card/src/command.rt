@@ -58,7 +58,7 @@ pub fn select(aid: &[u8], out: &mut [u8]) -> CommandAnswer
     if !good_aid(n) {
         return CommandAnswer::WrongAid;
     }
-    let total = n + 6;
+    let total = n + SELECT_BYTES;
     if out.len() < total {
         return CommandAnswer::ShortBuffer;
     }
@@ -80,6 +80,11 @@ fn object_tag(kind: Kind) -> [u8; 3]
         Kind::Fingers => [0xDF, 0xC1, 0x03],
     }
 }
+
+// The bytes of SELECT beside its AID, and the most that a command has, which is SELECT with the longest AID; `selectBeside` and `commandMost` in the definitions.
+const SELECT_BYTES: usize = 6;
+
+pub const COMMAND_MOST: usize = AID_MOST + SELECT_BYTES;
 
 // The bytes of GET DATA and of GET RESPONSE.
 const GET_DATA_BYTES: usize = 11;

@@ -3,7 +3,10 @@ ghost use mathlib.Core.Path.{_≡_};
 ghost use Rattle.card.specs.Date.{leapYear, daysIn, realDate, dateAnswer, dateOf};
 
 // The bytes of field 35, a digit each; `dateDigits` in the definitions.
-const DATE_DIGITS: usize = 8;
+pub(crate) const DATE_DIGITS: usize = 8;
+
+// Document 01's cause of an ill-formed date; `illFormedDate` in the definitions.
+pub const ILL_FORMED_DATE: u8 = 22;
 
 // What date answers: the number YYYYMMDD, or that the bytes are no real date. `dateAnswer` gives document 01's cause of each.
 pub enum Date {
@@ -18,7 +21,7 @@ impl Date {
     {
         match self {
             Date::Real(_) => 0,
-            Date::Unreal => 22,
+            Date::Unreal => ILL_FORMED_DATE,
         }
     }
 }

@@ -1,5 +1,7 @@
 // Data objects (document 01, section Objects): one TLV 53, whose value holds one-byte-tag fields, each once, in the order of the object's rows.
 use crate::bytes;
+use crate::date::DATE_DIGITS;
+use crate::fascn::counts::FASCN_BYTES;
 use crate::tlv;
 use crate::tlv::Header;
 ghost use mathlib.Core.Path.{_≡_};
@@ -52,7 +54,7 @@ pub struct Part {
     pub len: u32,
 }
 
-const EMPTY: Part = Part { start: 0, len: 0 };
+pub const EMPTY: Part = Part { start: 0, len: 0 };
 
 // A field read at a place: whether it is as its row asks, its part, and the place after it.
 pub(crate) struct Field {
@@ -60,6 +62,9 @@ pub(crate) struct Field {
     pub part: Part,
     pub next: usize,
 }
+
+// Document 01's cause of a malformed object; `malformedObject` in the definitions.
+pub const MALFORMED_OBJECT: u8 = 20;
 
 // What parse answers. `objectNumber` gives document 01's cause.
 pub enum ObjectAnswer {
@@ -74,7 +79,7 @@ impl ObjectAnswer {
     {
         match self {
             ObjectAnswer::Accepted => 0,
-            ObjectAnswer::Malformed => 20,
+            ObjectAnswer::Malformed => MALFORMED_OBJECT,
         }
     }
 }
@@ -94,9 +99,9 @@ fn layout_of(kind: Kind) -> Layout
         Kind::Signed => Layout {
             n: 5,
             rows: [
-                Row(FASCN_TAG, 25, 25, false),
+                Row(FASCN_TAG, FASCN_BYTES, FASCN_BYTES, false),
                 Row(GUID_TAG, 16, 16, false),
-                Row(EXPIRY_TAG, 8, 8, false),
+                Row(EXPIRY_TAG, DATE_DIGITS, DATE_DIGITS, false),
                 Row(SIGNATURE_TAG, 1, 2816, false),
                 Row(END_TAG, 0, 0, false),
             ],
@@ -104,9 +109,9 @@ fn layout_of(kind: Kind) -> Layout
         Kind::Unsigned => Layout {
             n: 4,
             rows: [
-                Row(FASCN_TAG, 25, 25, false),
+                Row(FASCN_TAG, FASCN_BYTES, FASCN_BYTES, false),
                 Row(GUID_TAG, 16, 16, true),
-                Row(EXPIRY_TAG, 8, 8, false),
+                Row(EXPIRY_TAG, DATE_DIGITS, DATE_DIGITS, false),
                 Row(END_TAG, 0, 0, false),
                 NONE,
             ],

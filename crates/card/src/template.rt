@@ -18,6 +18,9 @@ const HELD_MOST: usize = 16;
 
 const LEVELS_LEFT: usize = 3;
 
+// Document 01's cause of a malformed template; `malformedTemplate` in the definitions.
+const MALFORMED_TEMPLATE: u8 = 19;
+
 // What template answers. `templateNumber` gives document 01's cause.
 pub enum TemplateAnswer {
     Accepted,
@@ -31,7 +34,7 @@ impl TemplateAnswer {
     {
         match self {
             TemplateAnswer::Accepted => 0,
-            TemplateAnswer::Malformed => 19,
+            TemplateAnswer::Malformed => MALFORMED_TEMPLATE,
         }
     }
 }

@@ -18,7 +18,7 @@ use Rattle.card.proofs.ListsLaws.{all-at, all-ext, getD-listOf, listOf-is, list
 use Rattle.card.proofs.NumberLaws.{number-ext, number-lt, number-digit, number-mod}
 use Rattle.text.specs.Form.{between, betweenAt}
 use Rattle.text.proofs.FormLaws.{between-at, between-mark}
-use Rattle.ccl.specs.Line.{keyLimit, digitOf, cardOpens, space, between-groups, closes, cardText, lineOf, goodLine, goodCard, keyDigits, keySpelled, lineKey}
+use Rattle.ccl.specs.Line.{keyLimit, digitOf, cardOpens, space, between-groups, closes, cardText, lineOf, goodLine, goodCard, lineDigits, keySpelled, lineKey}
 
 -- ---- lengths
 
@@ -53,8 +53,8 @@ unfolding goodLine between betweenAt lineOf cardText listOf digitOf all
 line-good key = simp (digit-least key, digit-most key)
 
 -- its digits are those of the key
-digits-line : (key : ℕ) → keyDigits (lineOf key) ≡ listOf 16 (digitOf key)
-unfolding keyDigits sliceOf lineOf cardText listOf
+digits-line : (key : ℕ) → lineDigits (lineOf key) ≡ listOf 16 (digitOf key)
+unfolding lineDigits sliceOf lineOf cardText listOf
 digits-line key = refl
 
 -- every byte before the 0A is higher
@@ -88,21 +88,21 @@ unfolding lineFrom lineOf cardText sliceOf listOf
 line-from key = refl
 
 -- the line of the digits of s: the bytes of s where the lowest and the highest differ, and theirs where they do not
-from-digits : (s : List ℕ) → lineFrom (keyDigits s) ≡ listOf 32 (λ i. cond (eqb (low i) (high i)) (low i) (getD s i 0))
-unfolding lineFrom keyDigits lineOf cardText sliceOf listOf digitOf
+from-digits : (s : List ℕ) → lineFrom (lineDigits s) ≡ listOf 32 (λ i. cond (eqb (low i) (high i)) (low i) (getD s i 0))
+unfolding lineFrom lineDigits lineOf cardText sliceOf listOf digitOf
 from-digits s = refl
 
 -- the place of digit k in a line
 abbrev place : ℕ → ℕ
-place k = getD (keyDigits (listOf 32 (λ i. i))) k 0
+place k = getD (lineDigits (listOf 32 (λ i. i))) k 0
 
-digits-at : (s : List ℕ) → keyDigits s ≡ listOf 16 (λ k. getD s (place k) 0)
-unfolding keyDigits sliceOf listOf
+digits-at : (s : List ℕ) → lineDigits s ≡ listOf 16 (λ k. getD s (place k) 0)
+unfolding lineDigits sliceOf listOf
 digits-at s = refl
 
 -- digits stand there
 places : all 16 (λ k. ltb (place k) 31 && eqb (low (place k)) 48 && eqb (high (place k)) 57) ≡ true
-unfolding keyDigits sliceOf listOf lineOf cardText digitOf all
+unfolding lineDigits sliceOf listOf lineOf cardText digitOf all
 places = refl
 
 place-is : (k : ℕ) → k < 16 → (place k < 31) × (low (place k) ≡ 48) × (high (place k) ≡ 57)
@@ -129,7 +129,7 @@ module _ (s : List ℕ) (good : goodLine s ≡ true) where
       (eq-or-lt-of-le (omega arith))
 
   -- it is the line of its digits
-  good-from : lineFrom (keyDigits s) ≡ s
+  good-from : lineFrom (lineDigits s) ≡ s
   unfolding goodLine
   good-from = from-digits s ∙ listOf-is 32 _ s good-length (λ i h. at i (eqb (low i) (high i)) refl)
     where
@@ -138,7 +138,7 @@ module _ (s : List ℕ) (good : goodLine s ≡ true) where
       at i false e = refl
 
   -- and they are decimal digits
-  good-digit : (k : ℕ) → k < 16 → (48 ≤ getD (keyDigits s) k 0) × (getD (keyDigits s) k 0 ≤ 57)
+  good-digit : (k : ℕ) → k < 16 → (48 ≤ getD (lineDigits s) k 0) × (getD (lineDigits s) k 0 ≤ 57)
   good-digit k h =
       let p = place-is k h in
       let b = parts .1 (place k) in
@@ -146,18 +146,18 @@ module _ (s : List ℕ) (good : goodLine s ≡ true) where
 
   -- "what is read is written back"
   pub line-key : lineOf (lineKey s) ≡ s
-  unfolding lineKey keySpelled digitOf keyDigits sliceOf listOf
-  line-key = line-from (lineKey s) ∙ ap lineFrom (listOf-is 16 (digitOf (lineKey s)) (keyDigits s) refl digit) ∙ good-from
+  unfolding lineKey keySpelled digitOf lineDigits sliceOf listOf
+  line-key = line-from (lineKey s) ∙ ap lineFrom (listOf-is 16 (digitOf (lineKey s)) (lineDigits s) refl digit) ∙ good-from
     where
-      digit : (k : ℕ) → k < 16 → digitOf (lineKey s) k ≡ getD (keyDigits s) k 0
+      digit : (k : ℕ) → k < 16 → digitOf (lineKey s) k ≡ getD (lineDigits s) k 0
       digit k h =
           let e : 15 - k ≡ 16 - suc k = omega arith in
-          let f : ℕ → ℕ = λ k. getD (keyDigits s) k 0 % 16 in
+          let f : ℕ → ℕ = λ k. getD (lineDigits s) k 0 % 16 in
           rw (e, number-digit 10 16 f (λ k h. omega (arith, good-digit k h)) k h) (omega (arith, good-digit k h))
 
   pub key-small : lineKey s < keyLimit
   unfolding lineKey keySpelled
-  key-small = number-lt 10 16 (λ k. getD (keyDigits s) k 0 % 16) (λ k h. omega (arith, good-digit k h))
+  key-small = number-lt 10 16 (λ k. getD (lineDigits s) k 0 % 16) (λ k h. omega (arith, good-digit k h))
 
 -- ---- a card's text
 

@@ -58,14 +58,14 @@ unfoldable pub goodCard : List ℕ → Bool
 goodCard s = between (cardText 0) (cardText highestKey) s
 
 -- The bytes at the digits' places, and the number that they spell: the value of an ASCII digit is its low four bits.
-unfoldable pub keyDigits : List ℕ → List ℕ
-keyDigits s = sliceOf 7 4 s ++ sliceOf 12 4 s ++ sliceOf 17 6 s ++ sliceOf 26 1 s ++ sliceOf 28 1 s
+unfoldable pub lineDigits : List ℕ → List ℕ
+lineDigits s = sliceOf 7 4 s ++ sliceOf 12 4 s ++ sliceOf 17 6 s ++ sliceOf 26 1 s ++ sliceOf 28 1 s
 
 unfoldable pub keySpelled : List ℕ → ℕ
 keySpelled d = number 10 keyLength (λ k. getD d k 0 % 16)
 
 unfoldable pub lineKey : List ℕ → ℕ
-lineKey s = keySpelled (keyDigits s)
+lineKey s = keySpelled (lineDigits s)
 
 -- ---- the answer of the code: document 01's number of each case, and the key beside it
 

@@ -4,7 +4,7 @@ ghost use Prim.Native.Nat.{_<_};
 ghost use lib.ListN.{length};
 ghost use Rattle.card.specs.Lists.{listOf};
 ghost use Rattle.card.specs.Fascn.{keyLength};
-ghost use Rattle.ccl.specs.Line.{digitOf, lineOf, keyDigits, keySpelled, lineKey, cardAnswer, cardOf};
+ghost use Rattle.ccl.specs.Line.{digitOf, lineOf, lineDigits, keySpelled, lineKey, cardAnswer, cardOf};
 use card::fascn::counts::KEY_DIGITS;
 use text::form;
 
@@ -21,9 +21,9 @@ pub enum CardKey {
 }
 
 // The bytes at the places of the digits in a line, or in a line without its 0A.
-fn key_digits(s: &[u8]) -> [u8; KEY_DIGITS]
+fn line_digits(s: &[u8]) -> [u8; KEY_DIGITS]
     requires { ⌜ 28 < length (now s) ⌝ }
-    ensures { λ r. ⌜ r ≡ keyDigits (now (s .entry)) ⌝ }
+    ensures { λ r. ⌜ r ≡ lineDigits (now (s .entry)) ⌝ }
 {
     [
         s[7],
@@ -61,7 +61,7 @@ pub(crate) fn line_key(s: &[u8]) -> u64
     requires { ⌜ 28 < length (now s) ⌝ }
     ensures { λ r. ⌜ r ≡ lineKey (now (s .entry)) ⌝ }
 {
-    let d = key_digits(s);
+    let d = line_digits(s);
     key_spelled(&d)
 }
 

@@ -21,8 +21,8 @@ use Rattle.text.proofs.FormLaws.{between-at, between-mark}
 use Rattle.ccl.specs.Line.{space, goodCard, lineKey, cardText}
 use Rattle.ccl.proofs.LineLaws.{card-key, card-small, card-good, key-card}
 use Rattle.gate_lines.specs.Line.{GateLine, longest, openLowest, openHighest, answerHead, verdictLowest, verdictHighest, hexFrom, headed, callIn, lineIn}
-use Rattle.gate_lines.specs.Gate.{digit}
-use Rattle.gate_lines.specs.LineText.{digitsText, openName, openText, verdictName, verdictText, withHex, textOfLine, Spelled, Written}
+use Rattle.gate_lines.specs.Gate.{decimalDigit}
+use Rattle.gate_lines.specs.LineText.{digitsText, openName, openText, verdictName, verdictText, withHex, textOfLine, Spelled, HasText}
 use Rattle.gate_lines.proofs.LineLaws.{headed-room, headed-form, headed-hex, headed-parts, line-short}
 
 -- ---- digits
@@ -95,7 +95,7 @@ verdict-filled s d e = rw (digits-back s 9 1 d, digits-back s 11 1 e)
 
 -- what a line's value and text are to each other
 abbrev ValueText : List ℕ → GateLine → Type 0
-ValueText s v = (v ≡ GateLine.bad → ⊥) → Written v × (textOfLine v ≡ s)
+ValueText s v = (v ≡ GateLine.bad → ⊥) → HasText v × (textOfLine v ≡ s)
 
 -- a choice that has a property whichever way the test goes
 chosen : {A : Type 0} (P : A → Type 0) (b : Bool) {x y : A} → (b ≡ true → P x) → (b ≡ false → P y) → P (cond b x y)
@@ -142,7 +142,7 @@ module _ (s : List ℕ) where
       (λ e. chosen (ValueText s) (headed verdictLowest verdictHighest s) verdict-text (λ e. bad-text)))))
 
 -- a line that is not bad is the text of its value, that value has a text, and the line is not too long
-pub text-read : (s : List ℕ) (v : GateLine) → lineIn s ≡ v → (v ≡ GateLine.bad → ⊥) → Written v × (textOfLine v ≡ s) × (length s ≤ longest)
+pub text-read : (s : List ℕ) (v : GateLine) → lineIn s ≡ v → (v ≡ GateLine.bad → ⊥) → HasText v × (textOfLine v ≡ s) × (length s ≤ longest)
 text-read s v e n = let t = subst (ValueText s) e (value-text s) n in (t .0, t .1, line-short s (λ z. n (sym e ∙ z)))
 
 -- ---- the text of a value that has one is read as that value
@@ -159,8 +159,8 @@ decimal-text p q n x h = number-ext 10 n spelled ∙ number-mod 10 n x (lit< tt)
         rw (
           append-assoc p (digitsText n x) q,
           getD-append-add p (digitsText n x ++ q) j 0,
-          List·getD-append (digitsText n x) q 0 j (rw (length-listOf n (λ j. digit (x / 10 ^ (n - suc j)))) l),
-          getD-listOf n (λ j. digit (x / 10 ^ (n - suc j))) j l,
+          List·getD-append (digitsText n x) q 0 j (rw (length-listOf n (λ j. decimalDigit (x / 10 ^ (n - suc j)))) l),
+          getD-listOf n (λ j. decimalDigit (x / 10 ^ (n - suc j))) j l,
         ) (value (x / 10 ^ (n - suc j)))
 
 -- HEX after a head
@@ -202,11 +202,11 @@ module _ (head bytes : List ℕ) where
       )
 
 -- the heads have their forms
-digit-least : (x : ℕ) → leb 48 (digit x) ≡ true
-digit-least x = le-leb 48 (digit x) (omega arith)
+digit-least : (x : ℕ) → leb 48 (decimalDigit x) ≡ true
+digit-least x = le-leb 48 (decimalDigit x) (omega arith)
 
-digit-most : (x : ℕ) → leb (digit x) 57 ≡ true
-digit-most x = le-leb (digit x) 57 (omega arith)
+digit-most : (x : ℕ) → leb (decimalDigit x) 57 ≡ true
+digit-most x = le-leb (decimalDigit x) 57 (omega arith)
 
 open-form : (mode date : ℕ) → between openLowest openHighest (openText mode date) ≡ true
 unfolding between betweenAt openText digitsText listOf all
@@ -267,7 +267,7 @@ unfolding withHex
 answer-second bytes = refl
 
 -- a value that has a text, of at most 1,024 bytes, is read from it
-pub read-text : (v : GateLine) → Written v → length (textOfLine v) ≤ longest → lineIn (textOfLine v) ≡ v
+pub read-text : (v : GateLine) → HasText v → length (textOfLine v) ≤ longest → lineIn (textOfLine v) ≡ v
 unfolding lineIn callIn textOfLine
 read-text (GateLine.card key) w l = rw (le-ltb longest (length (cardText key)) l, card-good key, key-card key w)
 read-text (GateLine.opening mode date aid) w l =

@@ -92,14 +92,14 @@ abbrev pub textIn : Text → List ℕ
 textIn t = take (t .len) (t .bytes)
 
 -- A number below 1,000 in decimal: its three digits without the zeros in front.
-abbrev pub digit : ℕ → ℕ
-digit x = 48 + x % 10
+abbrev pub decimalDigit : ℕ → ℕ
+decimalDigit x = 48 + x % 10
 
 unfoldable pub unprinted : ℕ → ℕ
 unprinted n = cond (ltb n 10) 2 (cond (ltb n 100) 1 0)
 
 unfoldable pub decimalText : ℕ → List ℕ
-decimalText n = drop (unprinted n) (digit (n / 100) ∷ digit (n / 10) ∷ digit n ∷ [])
+decimalText n = drop (unprinted n) (decimalDigit (n / 100) ∷ decimalDigit (n / 10) ∷ decimalDigit n ∷ [])
 
 -- `(refused `, and `)` with 0A
 abbrev pub refusedHead : List ℕ

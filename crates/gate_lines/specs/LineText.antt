@@ -9,11 +9,11 @@ use Rattle.text.specs.Hex.{hexOf}
 use Rattle.ccl.specs.Line.{keyLimit, space, cardText}
 use Rattle.session.specs.Promise.{Bytes}
 use Rattle.gate_lines.specs.Line.{GateLine, answerHead}
-use Rattle.gate_lines.specs.Gate.{digit}
+use Rattle.gate_lines.specs.Gate.{decimalDigit}
 
 -- The last n decimal digits of x in ASCII, the highest first.
 unfoldable pub digitsText : ℕ → ℕ → List ℕ
-digitsText n x = listOf n (λ j. digit (x / 10 ^ (n - suc j)))
+digitsText n x = listOf n (λ j. decimalDigit (x / 10 ^ (n - suc j)))
 
 -- `(open ` and `(open MODE DATE `
 abbrev pub openName : List ℕ
@@ -45,9 +45,9 @@ textOfLine GateLine.bad = []
 abbrev pub Spelled : List ℕ → Type 0
 Spelled bytes = (1 ≤ length bytes) × Bytes bytes
 
-abbrev pub Written : GateLine → Type 0
-Written (GateLine.card key) = key < keyLimit
-Written (GateLine.opening mode date aid) = (mode < 10) × (date < 10 ^ 8) × Spelled aid
-Written (GateLine.answer bytes) = Spelled bytes
-Written (GateLine.verdict kind yesNo fascn) = (kind < 10) × (yesNo < 10) × Spelled fascn
-Written GateLine.bad = ⊥
+abbrev pub HasText : GateLine → Type 0
+HasText (GateLine.card key) = key < keyLimit
+HasText (GateLine.opening mode date aid) = (mode < 10) × (date < 10 ^ 8) × Spelled aid
+HasText (GateLine.answer bytes) = Spelled bytes
+HasText (GateLine.verdict kind yesNo fascn) = (kind < 10) × (yesNo < 10) × Spelled fascn
+HasText GateLine.bad = ⊥

@@ -43,16 +43,16 @@ pub data Since : Type 0 where
   none : Since
   from : (opening : Opening) (object : List ℕ) (calls : List Call) → Since
 
-abbrev pub andThen : Since → List Call → Since
-andThen Since.none calls = Since.none
-andThen (Since.from o object before) calls = Since.from o object (before ++ calls)
+abbrev pub withCalls : Since → List Call → Since
+withCalls Since.none calls = Since.none
+withCalls (Since.from o object before) calls = Since.from o object (before ++ calls)
 
 abbrev pub sinceLine : Gate → Since → GateLine → Since
 sinceLine g t (GateLine.card key) = t
 sinceLine g t (GateLine.opening mode date aid) =
     cond (eqb (openOf mode date aid .0) 0) (Since.from (record { mode = mode; date = date; aid = aid }) (g .object) []) t
-sinceLine g t (GateLine.answer bytes) = andThen t (callsOf g (GateLine.answer bytes))
-sinceLine g t (GateLine.verdict kind yesNo fascn) = andThen t (callsOf g (GateLine.verdict kind yesNo fascn))
+sinceLine g t (GateLine.answer bytes) = withCalls t (callsOf g (GateLine.answer bytes))
+sinceLine g t (GateLine.verdict kind yesNo fascn) = withCalls t (callsOf g (GateLine.verdict kind yesNo fascn))
 sinceLine g t GateLine.bad = t
 
 unfoldable pub sinceLines : Gate → Since → List (List ℕ) → Since

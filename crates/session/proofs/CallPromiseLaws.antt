@@ -1,4 +1,4 @@
--- The promise as the contracts carry it: what each call gives and leaves, for every history that leads to its session and buffer.
+-- The promise as the contracts carry it: what each call gives and leaves, for every history that reaches its session.
 -- Assumes nothing.
 use mathlib.Core.Path.{_≡_, refl, sym, ap, ap₂, subst, _∙_}
 use mathlib.Core.Bool.{Bool, true, false, cond}
@@ -6,7 +6,7 @@ use mathlib.Core.Logic.{_↔_}
 use mathlib.Core.List.{List, [], _∷_, _++_}
 use Prim.Native.Nat.{ℕ, _≤_}
 use native.Mathlib.Omega.{arith}
-use borrow.Author.Tests.{eqb-true, eqb-false, not-false, le-ltb}
+use borrow.Author.Tests.{eqb-true, eqb-false, eq-eqb, not-false}
 use lib.Dec.{eqb, ltb}
 use lib.ListN.{length, getD, take, drop}
 use lib.Seq.{take-at}
@@ -15,7 +15,7 @@ use Rattle.card.specs.Date.{realDate}
 use Rattle.card.proofs.ListsLaws.{front-at}
 use Rattle.session.specs.Tables.{modeOpens, stampSize}
 use Rattle.session.specs.Condition.{openConditions}
-use Rattle.session.specs.Reading.{refusedBy}
+use Rattle.session.specs.Reading.{Arguments, refusedBy}
 use Rattle.session.specs.Finding.{Finding, finding, standing, stampOf}
 use Rattle.session.specs.Operation.{replyNumber, given, commandGiven, dead, opened, openRefusal, openOf, commandOf, commandBuffer, answerRefusal, answerOf, answerBuffer, verdictOf, fieldOf, stampAnswer, stampBuffer}
 use Rattle.session.specs.Promise.{Call, argumentsOf, Host, callNumber, hostAfter, runCalls, Bytes, LentNow, Lent, goodOpening, History, start, finish, readingOf, stampFor, ExtendedBy, OpenedBy, OpenPromise, CommandPromise, AnswerPromise, VerdictPromise, FieldPromise, StampPromise}
@@ -138,9 +138,6 @@ field-promise s object tag value e h es =
 
 -- ---- stamp
 
-room-enough : (room : ℕ) → stampSize ≤ room → eqb (cond (ltb room stampSize) 6 0) 0 ≡ true
-room-enough room h = rw (le-ltb room stampSize h)
-
 front-take : (n : ℕ) (x l : List ℕ) → length x ≡ n → take n (overFront x l) ≡ x
 unfolding overFront
 front-take n x l e = take-at x (drop (length x) l) n e
@@ -152,12 +149,14 @@ stamp-promise s before left r e b h es =
     let size : length (stampOf f) ≡ stampSize = stamp-length (readingOf h) (reached h .object) (reached h .holds) in
     let g : given r ≡ stampAnswer (finish h .session) (length before) = e ∙ ap (λ (x : Session). stampAnswer x (length before)) es in
     let bytes : left ≡ stampFor (readingOf h) before = b ∙ ap (λ (x : Session). stampBuffer x before) es ∙ p .stamp-bytes before in
-    let written : stampSize ≤ length before → left ≡ overFront (stampOf f) before = λ room. bytes ∙ ap (λ (t : Bool). cond t (overFront (stampOf f) before) before) (room-enough (length before) room) in
+    let number : replyNumber (r .reply) ≡ refusedBy (readingOf h) (Arguments.stamp (length before)) = ap (λ (x : ℕ × Session). x .0) g ∙ p .stamp-number before in
+    let written : replyNumber (r .reply) ≡ 0 → left ≡ overFront (stampOf f) before =
+    λ z. bytes ∙ ap (λ (t : Bool). cond t (overFront (stampOf f) before) before) (eq-eqb _ 0 (sym number ∙ z)) in
     record {
-      number = ap (λ (x : ℕ × Session). x .0) g ∙ p .stamp-number before;
+      number = number;
       bytes = bytes;
-      granted = λ room. by-byte f (ap (λ (l : List ℕ). getD l 1 0) (written room) ∙ front-at (stampOf f) before 1 (omega (arith, size, stamp-long)) ∙ stamp-second f) (p .granted);
-      apart = λ room u. by-stamp f (finding (readingOf u)) (ap (take stampSize) (written room) ∙ front-take stampSize (stampOf f) before size) (p .apart u);
+      granted = λ z. by-byte f (ap (λ (l : List ℕ). getD l 1 0) (written z) ∙ front-at (stampOf f) before 1 (omega (arith, size, stamp-long)) ∙ stamp-second f) (p .granted);
+      apart = λ z u. by-stamp f (finding (readingOf u)) (ap (take stampSize) (written z) ∙ front-take stampSize (stampOf f) before size) (p .apart u);
       extended = extended h (Call.stamp before) (r .session) (finish h .object) tt (ap (λ (x : ℕ × Session). record { session = x .1; object = finish h .object }) (sym g));
     }
   where

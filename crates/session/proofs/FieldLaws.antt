@@ -15,7 +15,7 @@ use Rattle.card.specs.declared.object.Kind.{Kind}
 use Rattle.card.specs.declared.object.Part.{Part}
 use Rattle.card.proofs.ObjectLaws.{part-inside, field-after}
 use Rattle.session.specs.Tables.{hasStep2, kindAt, baseOf, objectSize, isIn, step1Tags, step2Tags, stepOfTag, stepRead}
-use Rattle.session.specs.Reading.{StepOne, Found, Reading, joinedOne, joinedTwo, joinedAt, fieldIn}
+use Rattle.session.specs.Reading.{StepOne, Found, Reading, joinedOne, joinedTwo, joinedAt, fieldIn, fieldFor}
 use Rattle.session.specs.Operation.{noParts, partFor, fieldOf}
 use Rattle.session.proofs.Invariant.{parts-one, parts-two, session-of, Held, OneHeld, TwoHeld, Stage, Invariant}
 use Rattle.session.proofs.TestLaws.{clash}
@@ -132,12 +132,24 @@ two-empty mode tag Option.none e = part-none (kindAt mode 2) tag
 two-empty mode tag (Option.some xs) e = part-empty (kindAt mode 2) tag xs e
 
 -- such a field is the empty part of any buffer
-pub field-none : (r : Reading) (m object : List ℕ) (tag : ℕ) → Invariant r m → fieldIn r tag ≡ [] → fieldOf (session-of r) object tag ≡ []
+none-read : (r : Reading) (m object : List ℕ) (tag : ℕ) → Invariant r m → fieldIn r tag ≡ [] → fieldOf (session-of r) object tag ≡ []
 unfolding fieldOf fieldIn stepOfTag
-field-none r m object tag i = rw (in-range r m i) (by-step (isIn tag step1Tags) (isIn tag step2Tags))
+none-read r m object tag i = rw (in-range r m i) (by-step (isIn tag step1Tags) (isIn tag step2Tags))
   where
     by-step : (x y : Bool) → cond (eqb (step x y) 0) [] (fieldValue (kindAt (r .opening .mode) (step x y)) tag (joinedAt (r .found) (step x y))) ≡ []
         → cond (tested (r .opening .mode) (r .progress .step) object (step x y)) [] (bytesAt (drop (baseOf (step x y)) object) (partFor (session-of r) (step x y) tag)) ≡ []
     by-step true y e = either (tested (r .opening .mode) (r .progress .step) object 1) _ (no-bytes _ (drop (baseOf 1) object) (one-empty (r .opening .mode) tag (r .found .step1) e))
     by-step false true e = either (tested (r .opening .mode) (r .progress .step) object 2) _ (no-bytes _ (drop (baseOf 2) object) (two-empty (r .opening .mode) tag (r .found .step2) e))
     by-step false false e = no-tag (not (eqb (length object) objectSize)) _
+
+-- and so is every field of a buffer of another size
+other-size : (r : Reading) (m object : List ℕ) (tag : ℕ) → Invariant r m → eqb (length object) objectSize ≡ false → fieldOf (session-of r) object tag ≡ []
+unfolding fieldOf
+other-size r m object tag i e = rw (in-range r m i, e)
+
+pub field-none : (r : Reading) (m object : List ℕ) (tag : ℕ) → Invariant r m → fieldFor r (length object) tag ≡ [] → fieldOf (session-of r) object tag ≡ []
+field-none r m object tag i = by-size (eqb (length object) objectSize) refl
+  where
+    by-size : (b : Bool) → eqb (length object) objectSize ≡ b → cond b (fieldIn r tag) [] ≡ [] → fieldOf (session-of r) object tag ≡ []
+    by-size true e z = none-read r m object tag i z
+    by-size false e z = other-size r m object tag i e

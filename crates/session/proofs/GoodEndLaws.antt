@@ -10,10 +10,10 @@ use borrow.Author.Tests.{eqb-true, eqb-false, not-false}
 use lib.Dec.{eqb}
 use lib.ListN.{length, getD, set, take, drop, length-set}
 use lib.Seq.{getD-set-same, getD-set-other}
-use Rattle.card.specs.Object.{expiryTag, objectOf, fieldValue}
+use Rattle.card.specs.Object.{malformedObject, expiryTag, objectOf, fieldValue}
 use Rattle.card.specs.Fascn.{unpackOf}
-use Rattle.card.specs.Date.{dateOf}
-use Rattle.session.specs.Tables.{checks, malformedCause, fascnCause, dateCause, checkServed, outcomeOf, expiryOutcome, listOutcome, judgedOutcomes, hasStep2, kindAt, stepAfter, baseOf, capacity, objectSize, fascnRead, keyRead, expiryRead, objectCause, joinedCause}
+use Rattle.card.specs.Date.{illFormedDate, dateOf}
+use Rattle.session.specs.Tables.{checks, fascnCause, checkServed, outcomeOf, expiryOutcome, listOutcome, judgedOutcomes, hasStep2, kindAt, stepAfter, baseOf, capacity, objectSize, fascnRead, keyRead, expiryRead, objectCause, joinedCause}
 use Rattle.session.specs.Reading.{Opening, StepOne, Verdict, Found, Reading, withProgress, atStep, step1End, step2End, goodEnd, ownFascn}
 use Rattle.session.specs.Finding.{verdictOn}
 use Rattle.session.specs.Ranges.{stepInRange}
@@ -55,7 +55,7 @@ unfolding joinedCause objectCause
 one-good mode xs cancelled b e =
     let u = unpackOf (fascnRead mode xs) .0 in
     let d = dateOf (fieldValue (kindAt mode 1) expiryTag xs) .0 in
-    let c = none-fit ((malformedCause, not (eqb (objectOf (kindAt mode 1) xs .0) 0)) ∷ (fascnCause, not (eqb u 0)) ∷ (dateCause, not (eqb d 0)) ∷ []) refl e in
+    let c = none-fit ((malformedObject, not (eqb (objectOf (kindAt mode 1) xs .0) 0)) ∷ (fascnCause, not (eqb u 0)) ∷ (illFormedDate, not (eqb d 0)) ∷ []) refl e in
     record { object = eqb-true _ 0 (not-false _ (c .0)); fascn = eqb-true u 0 (not-false _ (c .1 .0)); date = eqb-true d 0 (not-false _ (c .1 .1 .0)); bytes = b }
 
 -- what no verdict gave waits on, whatever FASC-N is then read

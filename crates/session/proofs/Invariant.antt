@@ -121,7 +121,7 @@ pub record Judged (opening : Opening) (o : List ℕ) (f : Found) : Type 0 where
 
 -- ---- all that is known
 
--- of the course of the reading, in a mode
+-- of the progress of the reading, in a mode
 pub record GoodProgress (mode : ℕ) (c : Progress) : Type 0 where
   pub step : stepInRange mode (c .step) ≡ true
   pub filled : length (c .joined) ≤ capacity mode (c .step)

@@ -8,7 +8,7 @@ use native.Mathlib.Omega.{arith}
 use lib.Dec.{eqb}
 use lib.ListN.{length, getD}
 use Rattle.session.specs.Condition.{commandConditions, answerConditions, verdictConditions, stampConditions}
-use Rattle.session.specs.Reading.{Arguments, Reading, begins, nextCommand, commandRefused, answerRefused, verdictRefused, refusedBy, read, refusals}
+use Rattle.session.specs.Reading.{hasNumber, Arguments, Reading, begins, nextCommand, commandRefused, answerRefused, verdictRefused, refusedBy, read, refusals}
 use Rattle.session.specs.Ranges.{inRange}
 use Rattle.session.specs.Operation.{opened, commandOf, commandBuffer, fieldOf, stampBuffer}
 use Rattle.session.specs.Promise.{Call, Host, callNumber, numbers, History, start, finish, argumentsIn, readingOf, stampFor, countFor, Promise}
@@ -45,8 +45,12 @@ not-four r (Arguments.stamp room) e = not-named 4 (stampConditions room) refl e
 
 never-four : (ts : List Arguments) (r : Reading) (i : ℕ) → getD (refusals r ts) i 0 ≡ 4 → ⊥
 never-four [] r i e = let z : _≡_ {A = ℕ} 0 4 = e in omega arith
-never-four (t ∷ ts) r zero e = not-four r t e
-never-four (t ∷ ts) r (suc i) e = never-four ts (read r t) i e
+never-four (t ∷ ts) r i e = of-both (hasNumber t) (refusedBy r t) (refusals (read r t) ts) i (not-four r t) (never-four ts (read r t)) e
+  where
+    of-both : (b : Bool) (k : ℕ) (ks : List ℕ) (i : ℕ) → (k ≡ 4 → ⊥) → ((j : ℕ) → getD ks j 0 ≡ 4 → ⊥) → getD (cond b (k ∷ ks) ks) i 0 ≡ 4 → ⊥
+    of-both true k ks zero p q e = p e
+    of-both true k ks (suc i) p q e = q i e
+    of-both false k ks i p q e = q i e
 
 -- ---- the calls made next, on the session that stands for a reading
 

@@ -25,7 +25,7 @@ use Rattle.session.proofs.FigureLaws.{base-inside, base-by}
 
 -- ---- the groups
 
--- setting, progress, outcomes and card
+-- opening, progress, outcomes and card
 pub groups-in-range : (s : Session) → inRange s ≡ true
     → let v = rangedValues s in
     ((openingInRange (v .mode) (v .date) (v .«aid_len») ≡ true) × (progressInRange (v .mode) (v .step) (v .filled) (v .cause) (v .outstanding) ≡ true))
@@ -102,6 +102,6 @@ part-in-range s step tag e = rw (base-by step) (by-step (eqb step 2) (kindAt (s 
 -- ---- the values by themselves
 
 -- what their test says is said of the session that they are of
-pub values-say : (s : Session) {v : Values} {r : Bool} → v ≡ rangedValues s → r ≡ not (valuesInRange v) → r ≡ outOfRange s
+pub values-test : (s : Session) {v : Values} {r : Bool} → v ≡ rangedValues s → r ≡ not (valuesInRange v) → r ≡ outOfRange s
 unfolding inRange
-values-say s e f = f ∙ ap (λ (x : Values). not (valuesInRange x)) e
+values-test s e f = f ∙ ap (λ (x : Values). not (valuesInRange x)) e

@@ -9,10 +9,10 @@ use lib.Dec.{eqb, ltb}
 use Rattle.card.specs.Fascn.{unpackOf}
 use Rattle.card.specs.Tlv.{onlyOf}
 use Rattle.card.specs.Template.{templateTag, templateOf, goodFrom}
-use Rattle.card.specs.Object.{expiryTag, objectOf, fieldValue}
-use Rattle.card.specs.Date.{dateOf}
+use Rattle.card.specs.Object.{malformedObject, expiryTag, objectOf, fieldValue}
+use Rattle.card.specs.Date.{illFormedDate, dateOf}
 use Rattle.card.specs.declared.command.Status.{Status}
-use Rattle.session.specs.Tables.{statusCause, emptyCause, fullCause, malformedCause, fascnCause, dateCause, kindAt, fascnRead, isOther, isMore, ruleCause, objectCause, joinedCause}
+use Rattle.session.specs.Tables.{statusCause, emptyCause, fullCause, fascnCause, kindAt, fascnRead, isOther, isMore, ruleCause, objectCause, joinedCause}
 use Rattle.session.specs.Ranges.{causeInRange}
 use Rattle.session.proofs.TestLaws.{either}
 use Rattle.session.proofs.ConditionLaws.{none-fit}
@@ -39,6 +39,6 @@ pub joined-in-range : (mode step : ℕ) (joined : List ℕ) → causeInRange (jo
 unfolding joinedCause templateOf objectCause
 joined-in-range mode step joined =
     either InRange (eqb step 0) (either InRange (goodFrom (onlyOf templateTag joined) joined) {x = 0} {y = 19} refl refl)
-    (either InRange (not (eqb (objectOf (kindAt mode step) joined .0) 0)) {x = malformedCause} refl
+    (either InRange (not (eqb (objectOf (kindAt mode step) joined .0) 0)) {x = malformedObject} refl
     (either InRange (eqb step 1 && not (eqb (unpackOf (fascnRead mode joined) .0) 0)) {x = fascnCause} refl
-    (either InRange (eqb step 1 && not (eqb (dateOf (fieldValue (kindAt mode 1) expiryTag joined) .0) 0)) {x = dateCause} {y = 0} refl refl)))
+    (either InRange (eqb step 1 && not (eqb (dateOf (fieldValue (kindAt mode 1) expiryTag joined) .0) 0)) {x = illFormedDate} {y = 0} refl refl)))

@@ -10,7 +10,7 @@ use lib.ListN.{length}
 use Rattle.card.specs.Refusal.{refusalOf}
 use Rattle.session.specs.Tables.{dataOf, statusBytes}
 use Rattle.session.specs.Condition.{stampConditions}
-use Rattle.session.specs.Reading.{Arguments, Reading, commandRefused, answerRefused, answerTaken, verdictRefused, verdictTaken, refusedBy, read, reading, refusals}
+use Rattle.session.specs.Reading.{hasNumber, Arguments, Reading, commandRefused, answerRefused, answerTaken, verdictRefused, verdictTaken, refusedBy, read, reading, refusals}
 use Rattle.session.specs.Operation.{commandOf, answerTakenSession, answerTakenBuffer, answerOf, answerBuffer, verdictRefusal, verdictOf, stampRefusal, stampAnswer}
 use Rattle.session.specs.Promise.{Call, argumentsOf, Host, callNumber, hostAfter, runCalls, numbers, LentNow, Lent}
 use Rattle.session.specs.declared.state.Session.{Session}
@@ -35,9 +35,9 @@ command-zero-or k n x y false e = refl
 command-refused : (r : Reading) (m : List ℕ) (room : ℕ) → Invariant r m → commandOf (session-of r) room .0 ≡ commandRefused r room
 command-refused r m room i = rw (command-gives r m room i) (command-zero-or (commandRefused r room) _ _ _ _ refl)
 
-pub answer-refused : (r : Reading) (m object bytes cancelled : List ℕ) → Invariant r m → answerOf (session-of r) object bytes cancelled .0 ≡ answerRefused r (length object) (length bytes)
+pub answer-refusal-is : (r : Reading) (m object bytes cancelled : List ℕ) → Invariant r m → answerOf (session-of r) object bytes cancelled .0 ≡ answerRefused r (length object) (length bytes)
 unfolding answerOf
-answer-refused r m object bytes cancelled i = rw (answer-number r m (length object) (length bytes) i) (zero-or (answerRefused r (length object) (length bytes)) _ _ _ refl)
+answer-refusal-is r m object bytes cancelled i = rw (answer-number r m (length object) (length bytes) i) (zero-or (answerRefused r (length object) (length bytes)) _ _ _ refl)
 
 verdict-number : (r : Reading) (m : List ℕ) (kind yesNo : ℕ) (fascn : List ℕ) → Invariant r m → verdictRefusal (session-of r) kind yesNo fascn ≡ verdictRefused r kind yesNo fascn
 unfolding verdictRefusal verdictRefused
@@ -58,7 +58,7 @@ stamp-number r m room i = rw (in-range r m i)
 pub number-is : (r : Reading) (m : List ℕ) (c : Call) → Invariant r m → callNumber (host-of r m) c ≡ refusedBy r (argumentsOf c)
 unfolding stampAnswer
 number-is r m (Call.command out) i = command-refused r m (length out) i
-number-is r m (Call.answer object bytes cancelled) i = answer-refused r m object bytes cancelled i
+number-is r m (Call.answer object bytes cancelled) i = answer-refusal-is r m object bytes cancelled i
 number-is r m (Call.verdict kind yesNo fascn) i = verdict-refused r m kind yesNo fascn i
 number-is r m (Call.field object tag) i = refl
 number-is r m (Call.stamp out) i = stamp-number r m (length out) i
@@ -84,7 +84,7 @@ on-call r m (Call.answer object bytes cancelled) i l =
         → StandsFor (answerTakenSession (session-of r) object (dataOf bytes) (statusBytes bytes) cancelled) (answerTakenBuffer (session-of r) object (dataOf bytes) (statusBytes bytes)) (answerTaken r (dataOf bytes) (statusBytes bytes) cancelled)
     own e =
         let a = answer-accepts r m (length object) (length bytes) i e in
-        let o : object ≡ m = l .0 (answer-refused r m object bytes cancelled i ∙ e) in
+        let o : object ≡ m = l .0 (answer-refusal-is r m object bytes cancelled i ∙ e) in
         rw o (takes-answer r m (dataOf bytes) (statusBytes bytes) cancelled i (sym (ap length o) ∙ a .whole) (a .below) (part-bytes (length bytes - 2) 0 bytes (l .1)))
 on-call r m (Call.verdict kind yesNo fascn) i l =
     rw (verdict-gives r m kind yesNo fascn i)
@@ -107,4 +107,4 @@ numbers-are [] r m i l = refl
 numbers-are (c ∷ cs) r m i l =
     let a = on-call r m c i (l .0) in
     let rest : Lent (host-of (read r (argumentsOf c)) (a .object)) cs = subst (λ (h : Host). Lent h cs) (a .same) (l .1) in
-    ap₂ (λ (k : ℕ) (ks : List ℕ). k ∷ ks) (number-is r m c i) (ap (λ (h : Host). numbers h cs) (a .same) ∙ numbers-are cs (read r (argumentsOf c)) (a .object) (a .holds) rest)
+    ap₂ (λ (k : ℕ) (ks : List ℕ). cond (hasNumber (argumentsOf c)) (k ∷ ks) ks) (number-is r m c i) (ap (λ (h : Host). numbers h cs) (a .same) ∙ numbers-are cs (read r (argumentsOf c)) (a .object) (a .holds) rest)

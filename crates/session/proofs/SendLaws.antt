@@ -64,9 +64,9 @@ by-room true s x bytes out m w e = (rw (number-is w, ap (λ (p : (ℕ × ℕ) ×
 by-room false s x bytes out m w e = (rw (number-is w, ap (λ (p : (ℕ × ℕ) × List ℕ). p .0) e), ap (λ (p : (ℕ × ℕ) × List ℕ). p .1) e)
 
 -- the session is out of range
-pub command-dead : (s : Session) (out : List ℕ) → outOfRange s ≡ true → ((4, 0, s) ≡ commandOf s (length out)) × (out ≡ commandBuffer s out)
+pub command-out-of-range : (s : Session) (out : List ℕ) → outOfRange s ≡ true → ((4, 0, s) ≡ commandOf s (length out)) × (out ≡ commandBuffer s out)
 unfolding commandOf commandBuffer commandRefusal
-command-dead s out a = (rw a, rw a)
+command-out-of-range s out a = (rw a, rw a)
 
 -- there is nothing to send
 pub command-none : (s : Session) (out : List ℕ) → outOfRange s ≡ false → nothingToSend (s .progress .step) (s .progress .cause) (s .progress .outstanding) ≡ true

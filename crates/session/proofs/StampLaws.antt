@@ -17,7 +17,7 @@ use Rattle.card.specs.Date.{daysIn, realDate}
 use Rattle.card.specs.Command.{aidRefused}
 use Rattle.card.proofs.FascnLaws.{well-formed, unpack-pack}
 use Rattle.card.proofs.DateLaws.{date-real}
-use Rattle.session.specs.Tables.{modeInRange, fascnRead, numberSize, stampSize, fourBytes, layout}
+use Rattle.session.specs.Tables.{modeInRange, fascnRead, numberSize, stampSize, fourBytes, stampLayout}
 use Rattle.session.specs.Reading.{StepOne, Found, Reading, ownFascn}
 use Rattle.session.specs.Finding.{Finding, digitsFound, expiryFound, finding, standing, fascnStamped, expiryStamped, stampOf}
 use Rattle.session.specs.Operation.{stampHead, stampIn}
@@ -45,7 +45,7 @@ stamp-is r m i =
 
 -- its second byte is the standing
 pub stamp-second : (f : Finding) → getD (stampOf f) 1 0 ≡ standing f
-unfolding stampOf layout
+unfolding stampOf stampLayout
 stamp-second f = refl
 
 -- ---- what is stamped fits
@@ -86,8 +86,8 @@ read-by step f (Stage.late l x e) = ap has e ∙ sym (le-leb 2 step (omega arith
 date-small : (r : Reading) (m : List ℕ) → Invariant r m → r .opening .date < 2 ^ 32
 date-small r m i = real-small (r .opening .date) (and-right (modeInRange (r .opening .mode)) _ (and-left _ (not (aidRefused (r .opening .aid))) (i .opening)))
 
-layout-length : (a o f : List ℕ) (d x : ℕ) → length (layout a o d f x) ≡ length a + length o + numberSize + length f + numberSize
-unfolding layout
+layout-length : (a o f : List ℕ) (d x : ℕ) → length (stampLayout a o d f x) ≡ length a + length o + numberSize + length f + numberSize
+unfolding stampLayout
 layout-length a o f d x = simp length-append
 
 -- a stamp has 45 bytes
@@ -134,9 +134,9 @@ longer : (p q r s : List ℕ) → length p ≡ length r → length q ≡ length 
 longer p q r s h k = length-append p q ∙ ap₂ _+_ h k ∙ sym (length-append r s)
 
 -- a layout decides its parts, where these are as long
-layout-same : (a o f a′ o′ f′ : List ℕ) (d x d′ x′ : ℕ) → length a ≡ length a′ → length o ≡ length o′ → length f ≡ length f′ → layout a o d f x ≡ layout a′ o′ d′ f′ x′
+layout-same : (a o f a′ o′ f′ : List ℕ) (d x d′ x′ : ℕ) → length a ≡ length a′ → length o ≡ length o′ → length f ≡ length f′ → stampLayout a o d f x ≡ stampLayout a′ o′ d′ f′ x′
     → (a ≡ a′) × (o ≡ o′) × (fourBytes d ≡ fourBytes d′) × (f ≡ f′) × (fourBytes x ≡ fourBytes x′)
-unfolding layout
+unfolding stampLayout
 layout-same a o f a′ o′ f′ d x d′ x′ la lo lf e =
     let l1 = longer a o a′ o′ la lo in
     let l2 = longer (a ++ o) (fourBytes d) (a′ ++ o′) (fourBytes d′) l1 refl in

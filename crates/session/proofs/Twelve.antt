@@ -85,5 +85,5 @@ table =
     ∷ []
 
 pub twelve : map (λ row. row .0) table ≡ map (λ row. row .1) table
-unfolding example opening answered-by tables.objectSize tables.capacity tables.needs tables.checkServed tables.neededAt tables.neededOutcomes tables.verdictOutcome tables.expiryOutcome tables.listed tables.listOutcome tables.lowestFrom tables.causeOf tables.allPassed tables.standingOf tables.commandBytes tables.ruleCause tables.objectCause tables.joinedCause tables.layout commandRefused answerRefused goodEnd judged answerTaken verdictRefused read finding stampOf number sameBytes isDigitAt spelled goodDate dateOf tlvsFrom tlvsOf every wholeTo lengthsOf justOne goodValue goodFrom templateOf getResponseBytes selectBytes getDataBytes statusOf bytesAt fieldValue objectTag charBit sentBit bytesOf valuesFrom valuesOf packRefusal packOf keyOf table answer real object place partIn realDate daysIn objectOf objectFrom fieldsAnswer fieldsFrom rowField fieldFrom rowsOf onlyOf onlyFrom headerOf afterTag endingOf tagSize tagNumber lengthSize lengthOf unpackOf unpackRefusal bitAt valueAt oddAt valuesIn digitsFrom marksFrom decimalAt checkValue all listOf sliceOf xorOf
+unfolding example opening answered-by tables.objectSize tables.capacity tables.needs tables.checkServed tables.neededAt tables.neededOutcomes tables.verdictOutcome tables.expiryOutcome tables.listed tables.listOutcome tables.lowestFrom tables.causeOf tables.allPassed tables.standingOf tables.commandBytes tables.ruleCause tables.objectCause tables.joinedCause tables.stampLayout commandRefused answerRefused goodEnd judged answerTaken verdictRefused read finding stampOf number sameBytes isDigitAt spelled goodDate dateOf tlvsFrom tlvsOf every wholeTo lengthsOf justOne goodValue goodFrom templateOf getResponseBytes selectBytes getDataBytes statusOf bytesAt fieldValue objectTag charBit sentBit bytesOf valuesFrom valuesOf packRefusal packOf keyOf table answer real object place partIn realDate daysIn objectOf objectFrom fieldsAnswer fieldsFrom rowField fieldFrom rowsOf onlyOf onlyFrom headerOf afterTag endingOf tagSize tagNumber lengthSize lengthOf unpackOf unpackRefusal bitAt valueAt oddAt valuesIn digitsFrom marksFrom decimalAt checkValue all listOf sliceOf xorOf
 twelve = refl

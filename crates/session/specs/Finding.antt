@@ -9,7 +9,7 @@ use Prim.Native.Nat.{ℕ, _≤_}
 use lib.Dec.{eqb}
 use lib.ListN.{replicate}
 use Rattle.card.specs.Fascn.{fascnBytes, packOf}
-use Rattle.session.specs.Tables.{needs, goodKind, checkServed, causeOf, allPassed, standingOf, listed, fascnRead, digitsRead, keyRead, expiryRead, headOf, layout}
+use Rattle.session.specs.Tables.{needs, goodKind, checkServed, causeOf, allPassed, standingOf, listed, fascnRead, digitsRead, keyRead, expiryRead, headOf, stampLayout}
 use Rattle.session.specs.Reading.{StepOne, Verdict, Reading}
 
 pub record Finding : Type 0 where
@@ -63,7 +63,7 @@ expiryStamped (Option.some expiry) = expiry
 
 unfoldable pub stampOf : Finding → List ℕ
 stampOf f =
-    layout (headOf (f .mode) (standing f) (f .cause) (f .sw1) (f .sw2) (f .step)) (f .outcomes) (f .date) (fascnStamped (f .digits)) (expiryStamped (f .expiry))
+    stampLayout (headOf (f .mode) (standing f) (f .cause) (f .sw1) (f .sw2) (f .step)) (f .outcomes) (f .date) (fascnStamped (f .digits)) (expiryStamped (f .expiry))
 
 -- ---- granted, said of the calls
 

@@ -13,7 +13,7 @@ use Rattle.card.specs.Command.{aidMost, statusOf}
 use Rattle.card.specs.declared.object.Part.{Part}
 use Rattle.card.specs.declared.command.Status.{Status}
 use Rattle.card.specs.declared.command.Status.the-variants.{Done, More, Other}
-use Rattle.session.specs.Tables.{checks, checkServed, withOutcome, neededOutcomes, verdictOutcome, causeOf, standingOf, kindAt, stepAfter, baseOf, capacity, stepOfTag, NextCommand, commandBytes, isResponse, dataOf, statusBytes, ruleCause, statusShown, fascnRead, expiryRead, judgedOutcomes, joinedCause, headOf, layout}
+use Rattle.session.specs.Tables.{checks, checkServed, withOutcome, neededOutcomes, verdictOutcome, causeOf, standingOf, kindAt, stepAfter, baseOf, capacity, stepOfTag, NextCommand, commandBytes, isResponse, dataOf, statusBytes, ruleCause, statusShown, fascnRead, expiryRead, judgedOutcomes, joinedCause, headOf, stampLayout}
 use Rattle.session.specs.Condition.{openConditions, commandConditions, answerConditions, verdictConditions, fieldRefused, stampConditions}
 use Rattle.session.specs.Ranges.{outOfRange}
 use Rattle.session.specs.declared.state.SessionProgress.{SessionProgress}
@@ -254,7 +254,7 @@ stampHead s =
     headOf (s .opening .mode) (standingOf (s .opening .mode) (p .step) cause (s .outcomes)) cause (statusShown (p .cause) (p .sw1)) (statusShown (p .cause) (p .sw2)) (p .step)
 
 unfoldable pub stampIn : Session → List ℕ
-stampIn s = layout (stampHead s) (s .outcomes) (s .opening .date) (s .card .fascn) (s .card .expiry)
+stampIn s = stampLayout (stampHead s) (s .outcomes) (s .opening .date) (s .card .fascn) (s .card .expiry)
 
 unfoldable pub stampAnswer : Session → ℕ → ℕ × Session
 stampAnswer s room = (stampRefusal s room, s)

@@ -14,7 +14,7 @@ use Rattle.card.specs.Command.{aidRefused}
 use Rattle.session.specs.Tables.{modeInRange, answersMost, stampSize}
 use Rattle.session.specs.Ranges.{inRange}
 use Rattle.session.specs.Operation.{replyNumber, opened, commandOf, commandBuffer, answerRefusal, answerOf, answerBuffer, verdictOf, fieldOf, stampAnswer, stampBuffer}
-use Rattle.session.specs.Reading.{Opening, Arguments, Reading, begins, nextCommand, refusedBy, reading, refusals, fieldIn, answersIn, answers}
+use Rattle.session.specs.Reading.{Opening, Arguments, Reading, begins, nextCommand, hasNumber, refusedBy, reading, refusals, fieldIn, fieldFor, answersIn, answers}
 use Rattle.session.specs.Finding.{finding, standing, stampOf, Granted}
 use Rattle.session.specs.declared.state.Session.{Session}
 use Rattle.session.specs.declared.state.Answered.{Answered}
@@ -43,7 +43,7 @@ pub record Host : Type 0 where
   pub session : Session
   pub object : List ℕ
 
--- The number that the call gives, 0 where it is accepted. A field call gives none: 0 stands in its place.
+-- The number that the call gives, 0 where it is accepted, and for a field call, of which it is not asked.
 abbrev pub callNumber : Host → Call → ℕ
 callNumber h (Call.command out) = commandOf (h .session) (length out) .0
 callNumber h (Call.answer object bytes cancelled) = answerOf (h .session) object bytes cancelled .0
@@ -67,9 +67,10 @@ abbrev pub runCalls : Host → List Call → Host
 runCalls h [] = h
 runCalls h (c ∷ cs) = runCalls (hostAfter h c) cs
 
+-- The numbers of the calls that have one.
 abbrev pub numbers : Host → List Call → List ℕ
 numbers h [] = []
-numbers h (c ∷ cs) = callNumber h c ∷ numbers (hostAfter h c) cs
+numbers h (c ∷ cs) = let later = numbers (hostAfter h c) cs in cond (hasNumber (argumentsOf c)) (callNumber h c ∷ later) later
 
 -- Every number of the list is a byte.
 abbrev pub Bytes : List ℕ → Type 0
@@ -138,9 +139,9 @@ pub record Promise (h : History) : Type 0 where
   pub command-bytes : (out : List ℕ) → commandBuffer (finish h .session) out ≡ commandFor (readingOf h) out
   -- c: a field call made next, lent the host's buffer, gives the field's value in its step's joined data
   pub field-value : (tag : ℕ) → fieldOf (finish h .session) (finish h .object) tag ≡ fieldIn (readingOf h) tag
-  -- where the reading has none, the part is empty, whatever buffer is lent
-  pub field-empty : (object : List ℕ) (tag : ℕ) → fieldIn (readingOf h) tag ≡ [] → fieldOf (finish h .session) object tag ≡ []
-  -- d: each call of the list was refused where the reading says so, by that number; refusal 4 fits none
+  -- where the reading has none, or the buffer lent has another size, the part is empty, whatever is in it
+  pub field-empty : (object : List ℕ) (tag : ℕ) → fieldFor (readingOf h) (length object) tag ≡ [] → fieldOf (finish h .session) object tag ≡ []
+  -- d: each call of the list that has a number was refused where the reading says so, by that number; refusal 4 fits none
   pub refused : numbers (start h) (h .calls) ≡ refusals (begins (h .opening)) (argumentsIn h)
   pub never-four : (i : ℕ) → getD (numbers (start h) (h .calls)) i 0 ≡ 4 → ⊥
   pub in-range : inRange (finish h .session) ≡ true
@@ -152,7 +153,7 @@ pub record Promise (h : History) : Type 0 where
   pub answers-step : (step : ℕ) → answersIn step (begins (h .opening)) (argumentsIn h) ≤ answersMost (h .opening .mode) step
   pub answers-all : let most = answersMost (h .opening .mode) in answers (begins (h .opening)) (argumentsIn h) ≤ most 0 + most 1 + most 2
 
--- ---- the promise as the contracts carry it: for every history that leads to the session, and to the buffer, of the call
+-- ---- the promise as the contracts carry it: for every history that reaches the session of the call
 
 -- The session and the buffer that a call leaves are those of the history with that call at its end.
 pub record ExtendedBy (h : History) (c : Call) (session : Session) (object : List ℕ) : Type 0 where
@@ -199,10 +200,11 @@ pub record VerdictPromised (h : History) (kind yesNo : ℕ) (fascn : List ℕ) (
 abbrev pub VerdictPromise : Session → ℕ → ℕ → List ℕ → Answered → Type 0
 VerdictPromise s kind yesNo fascn r = (h : History) → s ≡ finish h .session → VerdictPromised h kind yesNo fascn r
 
--- Lent the host's buffer, it gives the field's value; a field that the reading has not is the empty part of whatever buffer was lent. The host's buffer stays.
+-- Lent the host's buffer, it gives the field's value; a field that the reading has not is the empty part of whatever buffer was lent, and so is every field of a buffer of
+-- another size. The host's buffer stays.
 pub record FieldPromised (h : History) (s : Session) (object : List ℕ) (tag : ℕ) (given : List ℕ) : Type 0 where
   pub value : object ≡ finish h .object → given ≡ fieldIn (readingOf h) tag
-  pub empty : fieldIn (readingOf h) tag ≡ [] → given ≡ []
+  pub empty : fieldFor (readingOf h) (length object) tag ≡ [] → given ≡ []
   pub extended : ExtendedBy h (Call.field object tag) s (finish h .object)
 
 abbrev pub FieldPromise : Session → List ℕ → ℕ → List ℕ → Type 0
@@ -213,8 +215,8 @@ FieldPromise s object tag given = (h : History) → s ≡ finish h .session → 
 pub record StampPromised (h : History) (before left : List ℕ) (r : Answered) : Type 0 where
   pub number : replyNumber (r .reply) ≡ refusedBy (readingOf h) (Arguments.stamp (length before))
   pub bytes : left ≡ stampFor (readingOf h) before
-  pub granted : stampSize ≤ length before → (getD left 1 0 ≡ 1) ↔ Granted (readingOf h)
-  pub apart : stampSize ≤ length before → (u : History) → (take stampSize left ≡ stampOf (finding (readingOf u))) ↔ (finding (readingOf h) ≡ finding (readingOf u))
+  pub granted : replyNumber (r .reply) ≡ 0 → (getD left 1 0 ≡ 1) ↔ Granted (readingOf h)
+  pub apart : replyNumber (r .reply) ≡ 0 → (u : History) → (take stampSize left ≡ stampOf (finding (readingOf u))) ↔ (finding (readingOf h) ≡ finding (readingOf u))
   pub extended : ExtendedBy h (Call.stamp before) (r .session) (finish h .object)
 
 abbrev pub StampPromise : Session → List ℕ → List ℕ → Answered → Type 0

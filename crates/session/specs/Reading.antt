@@ -13,7 +13,7 @@ use Rattle.card.specs.Object.{fieldValue}
 use Rattle.card.specs.Command.{statusOf}
 use Rattle.card.specs.declared.command.Status.{Status}
 use Rattle.card.specs.declared.command.Status.the-variants.{Done, More, Other}
-use Rattle.session.specs.Tables.{checkServed, neededOutcomes, withOutcome, verdictOutcome, judgedOutcomes, kindAt, stepAfter, capacity, stepOfTag, NextCommand, commandBytes, isResponse, dataOf, statusBytes, ruleCause, statusShown, fascnRead, joinedCause}
+use Rattle.session.specs.Tables.{checkServed, neededOutcomes, withOutcome, verdictOutcome, judgedOutcomes, kindAt, stepAfter, objectSize, capacity, stepOfTag, NextCommand, commandBytes, isResponse, dataOf, statusBytes, ruleCause, statusShown, fascnRead, joinedCause}
 use Rattle.session.specs.Condition.{commandConditions, answerConditions, verdictConditions, stampConditions}
 
 -- ---- what the reading is fed
@@ -183,7 +183,15 @@ verdictTaken r kind yesNo fascn =
 
 -- ---- every call
 
--- The number that refuses a call, by its arguments and the reading; 0 where none does. A field call has no number: 0 stands in its place, and says nothing of it.
+-- Every call has a number but the field call: "the empty part, no number".
+abbrev pub hasNumber : Arguments → Bool
+hasNumber (Arguments.command room) = true
+hasNumber (Arguments.answer size bytes cancelled) = true
+hasNumber (Arguments.verdict kind yesNo fascn) = true
+hasNumber (Arguments.field size tag) = false
+hasNumber (Arguments.stamp room) = true
+
+-- The number that refuses a call, by its arguments and the reading; 0 where none does, and for a field call, of which it is not asked.
 abbrev pub refusedBy : Reading → Arguments → ℕ
 refusedBy r (Arguments.command room) = commandRefused r room
 refusedBy r (Arguments.answer size bytes cancelled) = answerRefused r size (length bytes)
@@ -207,10 +215,10 @@ abbrev pub reading : Reading → List Arguments → Reading
 reading r [] = r
 reading r (t ∷ ts) = reading (read r t) ts
 
--- The number of each call of a list.
+-- The numbers of the calls of a list that have one.
 abbrev pub refusals : Reading → List Arguments → List ℕ
 refusals r [] = []
-refusals r (t ∷ ts) = refusedBy r t ∷ refusals (read r t) ts
+refusals r (t ∷ ts) = let later = refusals (read r t) ts in cond (hasNumber t) (refusedBy r t ∷ later) later
 
 -- ---- fields
 
@@ -231,6 +239,10 @@ unfoldable pub fieldIn : Reading → ℕ → List ℕ
 fieldIn r tag =
     let step = stepOfTag tag in
     cond (eqb step 0) [] (fieldValue (kindAt (r .opening .mode) step) tag (joinedAt (r .found) step))
+
+-- What a field call gives of a step's joined data where it was lent a buffer of so many bytes: nothing for refusal 7.
+abbrev pub fieldFor : Reading → ℕ → ℕ → List ℕ
+fieldFor r size tag = cond (eqb size objectSize) (fieldIn r tag) []
 
 -- ---- answers taken
 

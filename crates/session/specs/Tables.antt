@@ -10,8 +10,8 @@ use Rattle.card.specs.Lists.{listOf, all, sameBytes}
 use Rattle.card.specs.Refusal.{refusalOf}
 use Rattle.card.specs.Fascn.{fascnBytes, unpackOf, keyOf}
 use Rattle.card.specs.Template.{templateOf}
-use Rattle.card.specs.Object.{fascnTag, guidTag, expiryTag, signatureTag, fingersTag, objectOf, fieldValue}
-use Rattle.card.specs.Date.{dateOf}
+use Rattle.card.specs.Object.{fascnTag, guidTag, expiryTag, signatureTag, fingersTag, malformedObject, objectOf, fieldValue}
+use Rattle.card.specs.Date.{illFormedDate, dateOf}
 use Rattle.card.specs.Command.{selectBytes, getDataBytes, getResponseBytes}
 use Rattle.card.specs.declared.object.Kind.{Kind}
 use Rattle.card.specs.declared.object.Kind.the-variants.{Signed, Unsigned, Fingers}
@@ -112,7 +112,7 @@ listOutcome key cancelled = cond (listed key cancelled) failed passed
 -- ---- cause and standing
 
 -- The causes that end the reading, 16 to 22: a status word that is neither 90 00 nor 61 with any second byte; 61 without data to GET RESPONSE; a step's total past its
--- capacity; template malformed; object malformed; FASC-N ill-formed; date ill-formed.
+-- capacity; and FASC-N ill-formed. Template malformed (19), object malformed (20) and date ill-formed (22) are named by their readers, in crate card.
 abbrev pub statusCause : ℕ
 statusCause = 16
 
@@ -122,17 +122,11 @@ emptyCause = 17
 abbrev pub fullCause : ℕ
 fullCause = 18
 
-abbrev pub malformedCause : ℕ
-malformedCause = 20
-
 abbrev pub fascnCause : ℕ
 fascnCause = 21
 
-abbrev pub dateCause : ℕ
-dateCause = 22
-
 abbrev pub ends : ℕ → Bool
-ends cause = leb statusCause cause && leb cause dateCause
+ends cause = leb statusCause cause && leb cause illFormedDate
 
 -- The lowest check with outcome 3 or 4, of the outcomes of check c and those after it; 0 where there is none.
 unfoldable pub lowestFrom : ℕ → List ℕ → ℕ
@@ -201,7 +195,7 @@ pub data NextCommand : Type 0 where
   ofStep : NextCommand
   getResponse : (second : ℕ) → NextCommand
 
--- Its bytes.
+-- Its bytes, in steps 0 to 2; at step 3 there is nothing to send (refusal 5).
 unfoldable pub commandBytes : ℕ → List ℕ → ℕ → NextCommand → List ℕ
 commandBytes mode aid step NextCommand.ofStep = cond (eqb step 0) (selectBytes aid) (getDataBytes (kindAt mode step))
 commandBytes mode aid step (NextCommand.getResponse second) = getResponseBytes second
@@ -268,9 +262,9 @@ judgedOutcomes mode date outcomes joined cancelled =
 unfoldable pub objectCause : ℕ → ℕ → List ℕ → ℕ
 objectCause mode step joined =
     refusalOf
-    ((malformedCause, not (eqb (objectOf (kindAt mode step) joined .0) 0))
+    ((malformedObject, not (eqb (objectOf (kindAt mode step) joined .0) 0))
     ∷ (fascnCause, eqb step 1 && not (eqb (unpackOf (fascnRead mode joined) .0) 0))
-    ∷ (dateCause, eqb step 1 && not (eqb (dateOf (fieldValue (kindAt mode 1) expiryTag joined) .0) 0))
+    ∷ (illFormedDate, eqb step 1 && not (eqb (dateOf (fieldValue (kindAt mode 1) expiryTag joined) .0) 0))
     ∷ [])
 
 unfoldable pub joinedCause : ℕ → ℕ → List ℕ → ℕ
@@ -295,5 +289,5 @@ stampSize = headSize + checks + numberSize + fascnBytes + numberSize
 abbrev pub headOf : ℕ → ℕ → ℕ → ℕ → ℕ → ℕ → List ℕ
 headOf mode standing cause sw1 sw2 step = mode ∷ standing ∷ cause ∷ sw1 ∷ sw2 ∷ step ∷ []
 
-unfoldable pub layout : List ℕ → List ℕ → ℕ → List ℕ → ℕ → List ℕ
-layout head outcomes date fascn expiry = (((head ++ outcomes) ++ fourBytes date) ++ fascn) ++ fourBytes expiry
+unfoldable pub stampLayout : List ℕ → List ℕ → ℕ → List ℕ → ℕ → List ℕ
+stampLayout head outcomes date fascn expiry = (((head ++ outcomes) ++ fourBytes date) ++ fascn) ++ fourBytes expiry

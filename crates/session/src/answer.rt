@@ -86,7 +86,7 @@ impl Session {
     }
 
     // The cause that rules 1 to 3 give of an answer with n bytes of data.
-    fn cause_by(self, status: Status, n: usize) -> u8
+    fn cause_in(self, status: Status, n: usize) -> u8
         requires { ⌜ self .progress .filled + n < 2 ^ 64 ⌝ }
         ensures { λ r. ⌜ r ≡ causeIn self status n ⌝ }
     {
@@ -127,7 +127,7 @@ impl Session {
     {
         let n = bytes.len();
         let word = command::status_of(status);
-        let cause = self.cause_by(word, n);
+        let cause = self.cause_in(word, n);
         if cause == 0 {
             let p = self.progress;
             let base = tables::base_of(p.step);

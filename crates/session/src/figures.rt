@@ -20,18 +20,15 @@ pub(crate) const FAILED: u8 = 3;
 
 pub(crate) const OTHER_CARD: u8 = 4;
 
-// Causes that end the reading: `statusCause`, `emptyCause`, `fullCause`, `malformedCause`, `fascnCause`, `dateCause`.
+// Causes that end the reading: `statusCause`, `emptyCause`, `fullCause`, `fascnCause`. Those of template, object and date are crate card's.
 pub(crate) const STATUS_CAUSE: u8 = 16;
 
 pub(crate) const EMPTY_CAUSE: u8 = 17;
 
 pub(crate) const FULL_CAUSE: u8 = 18;
 
-pub(crate) const MALFORMED_CAUSE: u8 = 20;
-
 pub(crate) const FASCN_CAUSE: u8 = 21;
 
-pub(crate) const DATE_CAUSE: u8 = 22;
 
 // Standings: 0 open, 1 granted, 2 rejected.
 pub(crate) const OPEN: u8 = 0;

@@ -1,9 +1,7 @@
 // The joined data of a step, judged once 90 00 has come: its cause, or the next step.
 use crate::figures::CHECKS;
-use crate::figures::DATE_CAUSE;
 use crate::figures::FAILED;
 use crate::figures::FASCN_CAUSE;
-use crate::figures::MALFORMED_CAUSE;
 use crate::figures::PASSED;
 use crate::progress;
 use crate::state::Card;
@@ -12,6 +10,7 @@ use crate::store;
 use crate::tables;
 use card::date;
 use card::date::Date;
+use card::date::ILL_FORMED_DATE;
 use card::fascn;
 use card::fascn::Key;
 use card::object;
@@ -19,6 +18,7 @@ use card::object::EXPIRY_TAG;
 use card::object::FASCN_TAG;
 use card::object::FIELDS;
 use card::object::Kind;
+use card::object::MALFORMED_OBJECT;
 use card::object::Part;
 use card::template;
 ghost use mathlib.Core.Path.{_≡_};
@@ -125,7 +125,7 @@ impl Session {
         }
         let date = date::read(value(kind, parts, joined, EXPIRY_TAG));
         if date.number() != 0 {
-            return self.stopped(joined.len(), DATE_CAUSE, 0, 0);
+            return self.stopped(joined.len(), ILL_FORMED_DATE, 0, 0);
         }
         let expiry = date_number(date);
         let digits = unpacked.digits;
@@ -174,7 +174,7 @@ impl Session {
         let object = object::parse(kind, joined);
         let answer = object.answer;
         if answer.number() != 0 {
-            return self.stopped(joined.len(), MALFORMED_CAUSE, 0, 0);
+            return self.stopped(joined.len(), MALFORMED_OBJECT, 0, 0);
         }
         let parts = object.parts;
         if step == 1 {

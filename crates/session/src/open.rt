@@ -12,16 +12,14 @@ use card::command::AID_MOST;
 use card::command::good_aid;
 use card::date;
 use card::fascn::counts::FASCN_BYTES;
+use card::object::EMPTY;
 use card::object::FIELDS;
-use card::object::Part;
 ghost use mathlib.Core.Path.{_≡_};
 ghost use Prim.Native.Nat.{_≤_};
 ghost use lib.ListN.{length};
 ghost use Rattle.card.specs.Command.{aidMost};
 ghost use Rattle.session.specs.Operation.{replyNumber, given, noCard, dead, opened, openRefusal, openOf};
 ghost use Rattle.session.specs.Promise.{OpenPromise};
-
-const EMPTY: Part = Part { start: 0, len: 0 };
 
 fn no_card() -> Card
     ensures { λ r. ⌜ r ≡ noCard ⌝ }

@@ -2,7 +2,6 @@
 use crate::figures::AWAITED;
 use crate::figures::CAPACITY;
 use crate::figures::CHECKS;
-use crate::figures::DATE_CAUSE;
 use crate::figures::FAILED;
 use crate::figures::GRANTED;
 use crate::figures::KINDS;
@@ -14,6 +13,7 @@ use crate::figures::REJECTED;
 use crate::figures::STATUS_CAUSE;
 use crate::figures::STEP_2_BASE;
 use crate::figures::UNNEEDED;
+use card::date::ILL_FORMED_DATE;
 use card::object::EXPIRY_TAG;
 use card::object::FASCN_TAG;
 use card::object::FINGERS_TAG;
@@ -161,7 +161,7 @@ pub(crate) fn standing_of(mode: u8, step: u8, cause: u8, o: [u8; CHECKS]) -> u8
 pub(crate) fn ends(cause: u8) -> bool
     ensures { λ r. ⌜ r ≡ ends cause ⌝ }
 {
-    (STATUS_CAUSE <= cause) & (cause <= DATE_CAUSE)
+    (STATUS_CAUSE <= cause) & (cause <= ILL_FORMED_DATE)
 }
 
 // Whether the mode has step 2: modes 3 and 4.

@@ -6,14 +6,14 @@ use mathlib.Core.List.{List, [], _∷_, _++_}
 use Prim.Native.Nat.{ℕ, _-_, _/_, _≤_}
 use lib.ListN.{length, take, drop, length-take, length-drop}
 use lib.Seq.{take-all}
-use Rattle.gate_lines.specs.Gate.{digit, unprinted, decimalText, refusedHead, closing, refusedText}
+use Rattle.gate_lines.specs.Gate.{decimalDigit, unprinted, decimalText, refusedHead, closing, refusedText}
 use Rattle.gate_lines.proofs.ReplyTextLaws.{text-room, no-bytes, three}
 use Rattle.gate_lines.proofs.reply.refused_text.Statement.{statement}
 use Rattle.gate_lines.proofs.reply.refused_text.Tie as tie
 
 -- the digits from place u on
 abbrev printed : ℕ → ℕ → List ℕ
-printed n u = take (3 - u) (drop u (digit (n / 100) ∷ digit (n / 10) ∷ digit n ∷ []))
+printed n u = take (3 - u) (drop u (decimalDigit (n / 100) ∷ decimalDigit (n / 10) ∷ decimalDigit n ∷ []))
 
 length-printed : (n u : ℕ) → length (printed n u) ≤ 3
 length-printed n u = rw length-take (omega arith)
@@ -21,7 +21,7 @@ length-printed n u = rw length-take (omega arith)
 printed-is : (n : ℕ) {u : ℕ} → u ≡ unprinted n → printed n u ≡ decimalText n
 unfolding decimalText
 printed-is n {u} e =
-    let l = digit (n / 100) ∷ digit (n / 10) ∷ digit n ∷ [] in
+    let l = decimalDigit (n / 100) ∷ decimalDigit (n / 10) ∷ decimalDigit n ∷ [] in
     take-all (3 - u) (drop u l) (rw length-drop (omega arith)) ∙ ap (λ (k : ℕ). drop k l) e
 
 with-requires : tie.Need-with-requires

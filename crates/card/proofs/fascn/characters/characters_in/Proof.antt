@@ -7,7 +7,7 @@ use lib.ListN.{length, replicate}
 use Rattle.card.specs.Lists.{written}
 use Rattle.card.specs.Characters.{regrouped, charsIn}
 use Rattle.card.proofs.ListsLaws.{written-none, front-end}
-use Rattle.card.proofs.CharacterLaws.{recut-turn}
+use Rattle.card.proofs.CharacterLaws.{regrouped-back}
 use Rattle.card.proofs.fascn.characters.characters_in.Statement.{statement}
 use Rattle.card.proofs.fascn.characters.characters_in.Tie as tie
 
@@ -25,7 +25,7 @@ loop-again c =
     let put = c .before in
     let read = put .before .before in
     let at = read .before .before in
-    (search needs, recut-turn 8 5 5 8 refl _ (at .loop .g) (replicate 40 0) (read .number-in .ensures) (at .loop .inv .1) (put .put-digits .ensures), search needs)
+    (search needs, regrouped-back 8 5 5 8 refl _ (at .loop .g) (replicate 40 0) (read .number-in .ensures) (at .loop .inv .1) (put .put-digits .ensures), search needs)
 
 returns : tie.Need-returns Inv-loop μ-loop
 unfolding charsIn

@@ -9,7 +9,7 @@ use lib.ListN.{length}
 use Rattle.session.specs.Tables.{objectSize}
 use Rattle.session.specs.Condition.{fieldRefused}
 use Rattle.session.specs.Ranges.{inRange, outOfRange}
-use Rattle.session.proofs.RangesLaws.{values-say, part-in-range}
+use Rattle.session.proofs.RangesLaws.{values-test, part-in-range}
 use Rattle.session.proofs.CallLaws.{field-refused, field-accepted, field-read, part-in-buffer}
 use Rattle.session.proofs.CallPromiseLaws.{field-both}
 use Rattle.session.proofs.state.Session.field.Statement.{statement}
@@ -20,7 +20,7 @@ tests : (c : tie.After-out-of-range) {b : Bool} → let a = c .before .before .b
     c .out-of-range .result || (not (eqb (length (a .object .now)) objectSize) || (eqb (c .before .before .before .step-of-tag .result) 0 || not (c .before .before .step-read .result))) ≡ b
     → outOfRange (a .self) || fieldRefused (a .self .opening .mode) (a .self .progress .step) (length (a .object .now)) (a .tag) ≡ b
 unfolding objectSize
-tests c e = rw (← values-say _ (c .before .values .ensures) (c .out-of-range .ensures), ← c .before .before .before .step-of-tag .ensures, ← c .before .before .step-read .ensures) e
+tests c e = rw (← values-test _ (c .before .values .ensures) (c .out-of-range .ensures), ← c .before .before .before .step-of-tag .ensures, ← c .before .before .step-read .ensures) e
 
 returns : tie.Need-returns
 unfolding objectSize

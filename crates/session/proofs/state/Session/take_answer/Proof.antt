@@ -18,13 +18,13 @@ use Rattle.session.proofs.state.Session.take_answer.Tie as tie
 end-fits : (c : tie.After-base-of) → let a = c .before .before .before .before .before .before .before .before .before .args in c .base-of .result + a .self .progress .filled + length (a .bytes .now) ≤ objectSize
 end-fits c =
     let s = c .before .before .before .before .before .before .before .before .before .args .self in
-    omega (arith, base-fits (s .opening .mode) (s .progress .step), c .base-of .ensures, rule-fits _ _ _ _ _ (sym (c .before .before .before .cause-by .ensures) ∙ c .before .before .if1 .taken))
+    omega (arith, base-fits (s .opening .mode) (s .progress .step), c .base-of .ensures, rule-fits _ _ _ _ _ (sym (c .before .before .before .cause-in .ensures) ∙ c .before .before .if1 .taken))
 
-cause-is : (c : tie.After-cause-by) → let a = c .before .before .before .before .before .before .args in c .cause-by .result ≡ causeIn (a .self) (statusOf (a .status .now)) (length (a .bytes .now))
-cause-is c = rw (← c .before .status-of .ensures) (c .cause-by .ensures)
+cause-is : (c : tie.After-cause-in) → let a = c .before .before .before .before .before .before .args in c .cause-in .result ≡ causeIn (a .self) (statusOf (a .status .now)) (length (a .bytes .now))
+cause-is c = rw (← c .before .status-of .ensures) (c .cause-in .ensures)
 
-cause-by-requires : tie.Need-cause-by-requires
-cause-by-requires c κs = let s = c .before .before .before .before .before .args .self in omega (arith, base-fits (s .opening .mode) (s .progress .step), object-small, c .before .before .before .before .before .pre)
+cause-in-requires : tie.Need-cause-in-requires
+cause-in-requires c κs = let s = c .before .before .before .before .before .args .self in omega (arith, base-fits (s .opening .mode) (s .progress .step), object-small, c .before .before .before .before .before .pre)
 
 add-at : tie.Need-add-at
 add-at c = omega (arith, object-small, end-fits (c .before))
@@ -66,6 +66,6 @@ pub take-answer-spec : {M : Type 1} → statement M
 take-answer-spec =
     tie.close
     (tie.spec
-    (λ c κs. search needs) cause-by-requires (λ c κs. search needs) add-at store-requires add-end (λ c. search needs) (λ c. search needs)
+    (λ c κs. search needs) cause-in-requires (λ c κs. search needs) add-at store-requires add-end (λ c. search needs) (λ c. search needs)
     part-appended-end appended-requires (λ c. search needs) returns (λ c. search needs) (λ c. search needs) (λ c κs. search needs) returns-2
     (λ c κs. search needs) returns-3)

@@ -1,4 +1,4 @@
--- `session::state::Session::verdict` meets its contract: the verdict is heard, or refused. Assumes nothing.
+-- `session::state::Session::verdict` meets its contract: the verdict is taken, or refused. Assumes nothing.
 use mathlib.Core.Path.{refl, sym, _∙_}
 use borrow.Author.Needs.{needs}
 use Rattle.session.specs.Operation.{verdictOf}

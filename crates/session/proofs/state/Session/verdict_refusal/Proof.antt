@@ -10,7 +10,7 @@ use Rattle.card.specs.Fascn.{unpackOf}
 use Rattle.session.specs.Condition.{verdictConditions}
 use Rattle.session.specs.Operation.{verdictRefusal}
 use Rattle.session.specs.declared.state.Session.{Session}
-use Rattle.session.proofs.RangesLaws.{values-say}
+use Rattle.session.proofs.RangesLaws.{values-test}
 use Rattle.session.proofs.state.Session.verdict_refusal.Statement.{statement}
 use Rattle.session.proofs.state.Session.verdict_refusal.Tie as tie
 
@@ -20,15 +20,15 @@ past n s kind yesNo fascn = refusalOf (drop n (verdictConditions (s .opening .mo
 
 returns : tie.Need-returns
 unfolding verdictRefusal
-returns c = simp (sym (values-say _ (c .before .before .values .ensures) (c .before .out-of-range .ensures)) ∙ c .if1 .taken)
+returns c = simp (sym (values-test _ (c .before .before .values .ensures) (c .before .out-of-range .ensures)) ∙ c .if1 .taken)
 
 returns-2 : tie.Need-returns-2
 unfolding verdictRefusal
-returns-2 c = simp (sym (values-say _ (c .before .before .before .before .values .ensures) (c .before .before .before .out-of-range .ensures)) ∙ c .before .before .if1 .left, ne-eqb _ _ (c .if2 .taken))
+returns-2 c = simp (sym (values-test _ (c .before .before .before .before .values .ensures) (c .before .before .before .out-of-range .ensures)) ∙ c .before .before .if1 .left, ne-eqb _ _ (c .if2 .taken))
 
 past-step : (c : tie.Else2) → let a = c .before .before .before .before .before .before .args in verdictRefusal (a .self) (a .kind) (a .yes) (a .fascn .now) ≡ past 1 (a .self) (a .kind) (a .yes) (a .fascn .now)
 unfolding verdictRefusal
-past-step c = simp (sym (values-say _ (c .before .before .before .before .values .ensures) (c .before .before .before .out-of-range .ensures)) ∙ c .before .before .if1 .left, eq-eqb _ _ (c .if2 .left))
+past-step c = simp (sym (values-test _ (c .before .before .before .before .values .ensures) (c .before .before .before .out-of-range .ensures)) ∙ c .before .before .if1 .left, eq-eqb _ _ (c .if2 .left))
 
 returns-3 : tie.Need-returns-3
 returns-3 c = rw (past-step (c .before .before)) (simp (sym (c .before .good-kind .ensures), c .if3 .taken))

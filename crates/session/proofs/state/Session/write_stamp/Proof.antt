@@ -4,7 +4,7 @@ use mathlib.Core.Path.{_≡_, refl, sym, ap, _∙_}
 use native.Mathlib.Omega.{arith}
 use lib.ListN.{length}
 use Rattle.session.proofs.StoreLaws.{stored-five}
-use Rattle.session.specs.Tables.{headSize, layout, stampSize}
+use Rattle.session.specs.Tables.{headSize, stampLayout, stampSize}
 use Rattle.session.specs.Operation.{stampHead, stampIn}
 use Rattle.session.specs.declared.state.Session.{Session}
 use Rattle.session.proofs.state.Session.write_stamp.Statement.{statement}
@@ -16,7 +16,7 @@ unfolding stampHead
 head-length s = refl
 
 returns : tie.Need-returns
-unfolding stampIn layout
+unfolding stampIn stampLayout
 returns c =
     let at4 = c .before .before .before .before .before .before .before in
     let at3 = at4 .before .before .before .before .before in
