@@ -11,7 +11,7 @@ fn run_script(i: usize) {
         os::fail(&name[..n]);
         return;
     }
-    gate_stream::run(fd);
+    gate_stream::run_gate(fd);
     libc::close(fd);
 }
 

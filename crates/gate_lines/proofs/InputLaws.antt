@@ -13,7 +13,7 @@ use Rattle.card.specs.Lists.{listOf, written}
 use Rattle.card.proofs.ListsLaws.{length-listOf, listOf-is, written-none, length-written}
 use Rattle.text.specs.Place.{countBefore}
 use Rattle.gate_lines.proofs.LineLaws.{line-held}
-use Rattle.gate_lines.specs.Line.{lineIn}
+use Rattle.gate_lines.specs.Line.{longest, lineIn}
 use Rattle.gate_lines.specs.Gate.{Gate, gateAfter, replyTo, replyText, endText}
 use Rattle.gate_lines.specs.Run.{runLines, printed, output}
 use Rattle.gate_lines.specs.Input.{Cut, cutByte, cut, lastLine, linesIn, mostHeld, InputState, inputStart, inputAfterByte, textOfByte, inputAfter, textOfInput, lastGate, lastText, partFrom, heldAfter, lineAfter}
@@ -256,13 +256,13 @@ last-gate : (g : Gate) (ls : List (List ℕ)) (s : List ℕ) (m : InputState) �
     → lastGate m ≡ runLines g (ls ++ lastLine s)
 unfolding lastGate
 last-gate g ls [] m p q = rw (q, append-nil ls) p
-last-gate g ls (b ∷ s) m p q = rw (held-some 1024 b s q) (run-line g ls (b ∷ s) m p q)
+last-gate g ls (b ∷ s) m p q = rw (held-some longest b s q) (run-line g ls (b ∷ s) m p q)
 
 last-text : (g : Gate) (ls : List (List ℕ)) (s : List ℕ) (m : InputState) → m .gate ≡ runLines g ls → m .held ≡ take mostHeld s
     → printed g (ls ++ lastLine s) ≡ printed g ls ++ lastText m
 unfolding lastText
 last-text g ls [] m p q = rw (q, append-nil ls) (sym (append-nil (printed g ls)))
-last-text g ls (b ∷ s) m p q = rw (held-some 1024 b s q) (printed-line g ls (b ∷ s) m p q)
+last-text g ls (b ∷ s) m p q = rw (held-some longest b s q) (printed-line g ls (b ∷ s) m p q)
 
 pub whole-gate : (g : Gate) (s : List ℕ) → lastGate (inputAfter (inputStart g) s) ≡ runLines g (linesIn s)
 unfolding linesIn

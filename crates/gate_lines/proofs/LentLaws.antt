@@ -18,15 +18,15 @@ use Rattle.session.specs.Operation.{given}
 use Rattle.session.specs.declared.state.Session.{Session}
 use Rattle.session.specs.declared.state.Answered.{Answered}
 use Rattle.gate_lines.specs.Gate.{Gate, gateOf, hasRoom, gateAfter, mostCards, replyBy}
-use Rattle.gate_lines.specs.Line.{GateLine}
+use Rattle.gate_lines.specs.Line.{GateLine, longest}
 use Rattle.gate_lines.specs.declared.state.State.{State}
 use Rattle.gate_lines.specs.declared.state.LineRun.{LineRun}
 
--- at most 1,024 digits are read whole into an array of 512
-pub spelled : (s b : List ℕ) (n : ℕ) → length s ≤ 1024 → n ≡ min (length s / 2) 512 → b ≡ written (replicate 512 0) 0 n (byteAt s) → take n b ≡ bytesIn s
+-- the digits of a line are read whole into an array of half the longest line's size
+pub spelled : (s b : List ℕ) (n : ℕ) → length s ≤ longest → n ≡ min (length s / 2) (longest / 2) → b ≡ written (replicate (longest / 2) 0) 0 n (byteAt s) → take n b ≡ bytesIn s
 spelled s b n h e w =
     let k : n ≡ length s / 2 = e ∙ min-eq-left (omega (arith, h)) in
-    rw (w, k) (front-bytes s (replicate 512 0))
+    rw (w, k) (front-bytes s (replicate (longest / 2) 0))
 
 -- the cards read so far: all that there are, where more are asked for
 pub lent : (n k : ℕ) (cards : List ℕ) → k ≡ min n (length cards) → take k cards ≡ take n cards

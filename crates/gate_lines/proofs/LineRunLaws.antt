@@ -31,7 +31,7 @@ pub fits-read : (line : List ℕ) (r k : Line) → Fits r line → r ≡ k → F
 fits-read line r k f p = subst (λ (x : Line). Fits x line) p f
 
 -- HEX is no longer than the line
-pub hex-length : (n : ℕ) (s : List ℕ) → length s ≤ longest → length (hexFrom n s) ≤ 1024
+pub hex-length : (n : ℕ) (s : List ℕ) → length s ≤ longest → length (hexFrom n s) ≤ longest
 unfolding hexFrom
 hex-length n s h = omega (arith, length-take (length s - (n + 1)) (drop n s), length-drop n s)
 
@@ -63,10 +63,10 @@ pub answer-steps : (s t : State) (cards object then : List ℕ) (reply : LineRep
 unfolding cardsAfter
 answer-steps s t cards object then reply bytes e p q = (e, (p, ap (λ (n : ℕ). (n, cards)) q))
 
-pub verdict-steps : (s t : State) (cards object : List ℕ) (reply : LineReply) (kind value : ℕ) (fascn : List ℕ) → reply ≡ replyBy (verdictOf (s .session) kind value fascn .0)
-    → t ≡ record { session = verdictOf (s .session) kind value fascn .1; cards = s .cards } → Steps s t cards cards object object reply (GateLine.verdict kind value fascn)
+pub verdict-steps : (s t : State) (cards object : List ℕ) (reply : LineReply) (kind yesNo : ℕ) (fascn : List ℕ) → reply ≡ replyBy (verdictOf (s .session) kind yesNo fascn .0)
+    → t ≡ record { session = verdictOf (s .session) kind yesNo fascn .1; cards = s .cards } → Steps s t cards cards object object reply (GateLine.verdict kind yesNo fascn)
 unfolding gateAfter replyTo cardsAfter
-verdict-steps s t cards object reply kind value fascn p e = (ap (λ (x : State). gateOf x cards object) e, (p, ap (λ (x : State). (x .cards, cards)) e))
+verdict-steps s t cards object reply kind yesNo fascn p e = (ap (λ (x : State). gateOf x cards object) e, (p, ap (λ (x : State). (x .cards, cards)) e))
 
 pub bad-steps : (s : State) (cards object : List ℕ) → Steps s s cards cards object object Bad GateLine.bad
 unfolding gateAfter replyTo cardsAfter

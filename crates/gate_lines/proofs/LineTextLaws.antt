@@ -20,7 +20,7 @@ use Rattle.text.proofs.HexLaws.{hex-bytes, bytes-small, length-bytes, length-he
 use Rattle.text.proofs.FormLaws.{between-at, between-mark}
 use Rattle.ccl.specs.Line.{space, goodCard, lineKey, cardText}
 use Rattle.ccl.proofs.LineLaws.{card-key, card-small, card-good, key-card}
-use Rattle.gate_lines.specs.Line.{GateLine, longest, openLowest, openHighest, answerHead, verdictLowest, verdictHighest, hexFrom, headed, callIn, lineIn}
+use Rattle.gate_lines.specs.Line.{GateLine, longest, openLowest, openHighest, answerOpens, verdictLowest, verdictHighest, hexFrom, headed, callIn, lineIn}
 use Rattle.gate_lines.specs.Gate.{decimalDigit}
 use Rattle.gate_lines.specs.LineText.{digitsText, openName, openText, verdictName, verdictText, withHex, textOfLine, Spelled, HasText}
 use Rattle.gate_lines.proofs.LineLaws.{headed-room, headed-form, headed-hex, headed-parts, line-short}
@@ -112,9 +112,9 @@ module _ (s : List ℕ) where
         text-back openLowest openHighest s e (openText (decimal s 6 1) (decimal s 8 8)) (open-filled s mode date),
       )
 
-  answer-text : headed answerHead answerHead s ≡ true → ValueText s (GateLine.answer (bytesIn (hexFrom 8 s)))
+  answer-text : headed answerOpens answerOpens s ≡ true → ValueText s (GateLine.answer (bytesIn (hexFrom 8 s)))
   unfolding textOfLine listOf
-  answer-text e n = (bytes-back answerHead answerHead s e, text-back answerHead answerHead s e answerHead refl)
+  answer-text e n = (bytes-back answerOpens answerOpens s e, text-back answerOpens answerOpens s e answerOpens refl)
 
   verdict-text : headed verdictLowest verdictHighest s ≡ true → ValueText s (GateLine.verdict (decimal s 9 1) (decimal s 11 1) (bytesIn (hexFrom 13 s)))
   unfolding textOfLine all
@@ -138,7 +138,7 @@ module _ (s : List ℕ) where
       chosen (ValueText s) (ltb longest (length s)) (λ e. bad-text)
       (λ e. chosen (ValueText s) (goodCard s) card-text
       (λ e. chosen (ValueText s) (headed openLowest openHighest s) open-text
-      (λ e. chosen (ValueText s) (headed answerHead answerHead s) answer-text
+      (λ e. chosen (ValueText s) (headed answerOpens answerOpens s) answer-text
       (λ e. chosen (ValueText s) (headed verdictLowest verdictHighest s) verdict-text (λ e. bad-text)))))
 
 -- a line that is not bad is the text of its value, that value has a text, and the line is not too long
@@ -212,7 +212,7 @@ open-form : (mode date : ℕ) → between openLowest openHighest (openText mode 
 unfolding between betweenAt openText digitsText listOf all
 open-form mode date = simp (digit-least, digit-most)
 
-answer-form : between answerHead answerHead answerHead ≡ true
+answer-form : between answerOpens answerOpens answerOpens ≡ true
 unfolding between betweenAt all
 answer-form = refl
 
@@ -262,7 +262,7 @@ verdict-parts kind yesNo fascn h k w = (
   refl,
 )
 
-answer-second : (bytes : List ℕ) → getD (withHex answerHead bytes) 1 0 ≡ 0x61
+answer-second : (bytes : List ℕ) → getD (withHex answerOpens bytes) 1 0 ≡ 0x61
 unfolding withHex
 answer-second bytes = refl
 
@@ -282,13 +282,13 @@ read-text (GateLine.opening mode date aid) w l =
       p .2,
     )
 read-text (GateLine.answer bytes) w l =
-    let s = withHex answerHead bytes in
+    let s = withHex answerOpens bytes in
     rw (
       le-ltb longest (length s) l,
       other-card s (λ e. omega (arith, e, answer-second bytes)),
       other-head openLowest openHighest s (lit< tt) refl (λ e. omega (arith, e, answer-second bytes)),
-      headed-after answerHead bytes answerHead answerHead answer-form (w .0),
-      bytes-after answerHead bytes w,
+      headed-after answerOpens bytes answerOpens answerOpens answer-form (w .0),
+      bytes-after answerOpens bytes w,
     )
 read-text (GateLine.verdict kind yesNo fascn) w l =
     let s = withHex (verdictText kind yesNo) fascn in
@@ -297,7 +297,7 @@ read-text (GateLine.verdict kind yesNo fascn) w l =
       le-ltb longest (length s) l,
       other-card s (λ e. omega (arith, e, p .3)),
       other-head openLowest openHighest s (lit< tt) refl (λ e. omega (arith, e, p .3)),
-      other-head answerHead answerHead s (lit< tt) refl (λ e. omega (arith, e, p .3)),
+      other-head answerOpens answerOpens s (lit< tt) refl (λ e. omega (arith, e, p .3)),
       headed-after (verdictText kind yesNo) fascn verdictLowest verdictHighest (verdict-form kind yesNo) (w .2 .0),
       p .0,
       p .1,

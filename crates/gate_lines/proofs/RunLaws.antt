@@ -27,7 +27,7 @@ use Rattle.text.specs.Hex.{bytesIn}
 use Rattle.text.specs.Form.{decimal}
 use Rattle.text.proofs.HexLaws.{bytes-small}
 use Rattle.ccl.specs.Line.{goodCard, lineKey}
-use Rattle.gate_lines.specs.Line.{GateLine, longest, openLowest, openHighest, answerHead, verdictLowest, verdictHighest, hexFrom, headed, callIn, lineIn}
+use Rattle.gate_lines.specs.Line.{GateLine, longest, openLowest, openHighest, answerOpens, verdictLowest, verdictHighest, hexFrom, headed, callIn, lineIn}
 use Rattle.gate_lines.specs.Gate.{Gate, gateAfter, hasRoom, commandRoom, fresh, endText}
 use Rattle.gate_lines.specs.Run.{runLines, Since, sinceLine, sinceLines, since, ReachedBy, Reached, endFor, EndPromise}
 
@@ -94,10 +94,10 @@ answer-leaves s object bytes keys e =
     ap (λ (x : Session). answerOf x object bytes keys .1) e
     ∙ ap (λ (x : ℕ × Session). x .1) (answer-unchanged dead object bytes keys (refused-by-four (answer-dead (length object) (length bytes))) .0)
 
-verdict-leaves : (s : Session) (kind value : ℕ) (fascn : List ℕ) → s ≡ dead → verdictOf s kind value fascn .1 ≡ dead
-verdict-leaves s kind value fascn e =
-    ap (λ (x : Session). verdictOf x kind value fascn .1) e
-    ∙ ap (λ (x : ℕ × Session). x .1) (verdict-unchanged dead kind value fascn (refused-by-four (verdict-dead kind value fascn)))
+verdict-leaves : (s : Session) (kind yesNo : ℕ) (fascn : List ℕ) → s ≡ dead → verdictOf s kind yesNo fascn .1 ≡ dead
+verdict-leaves s kind yesNo fascn e =
+    ap (λ (x : Session). verdictOf x kind yesNo fascn .1) e
+    ∙ ap (λ (x : ℕ × Session). x .1) (verdict-unchanged dead kind yesNo fascn (refused-by-four (verdict-dead kind yesNo fascn)))
 
 -- ---- one line
 
@@ -129,8 +129,8 @@ line-reaches g t (GateLine.opening mode date aid) k l =
     by-test Reached _ _ _ _ (eqb (openOf mode date aid .0) 0) (λ e. opening-reached g mode date aid (eqb-true _ _ e)) (λ e. l)
 line-reaches g Since.none (GateLine.answer bytes) k l = answer-leaves _ (g .object) bytes (g .keys) (command-leaves (g .session) (g .object) l)
 line-reaches g (Since.from o b cs) (GateLine.answer bytes) k l = answer-reached o b cs g bytes k l
-line-reaches g Since.none (GateLine.verdict kind value fascn) k l = verdict-leaves (g .session) kind value fascn l
-line-reaches g (Since.from o b cs) (GateLine.verdict kind value fascn) k l = reached-on o b cs g _ (Call.verdict kind value fascn) l tt refl
+line-reaches g Since.none (GateLine.verdict kind yesNo fascn) k l = verdict-leaves (g .session) kind yesNo fascn l
+line-reaches g (Since.from o b cs) (GateLine.verdict kind yesNo fascn) k l = reached-on o b cs g _ (Call.verdict kind yesNo fascn) l tt refl
 line-reaches g t GateLine.bad k l = l
 
 -- ---- every list of lines
@@ -148,7 +148,7 @@ bytes-by false false false false false key mode date kind yesNo aid bytes fascn 
 line-bytes : (l : List ℕ) → LineBytes (lineIn l)
 unfolding lineIn callIn
 line-bytes l =
-    bytes-by (ltb longest (length l)) (goodCard l) (headed openLowest openHighest l) (headed answerHead answerHead l) (headed verdictLowest verdictHighest l)
+    bytes-by (ltb longest (length l)) (goodCard l) (headed openLowest openHighest l) (headed answerOpens answerOpens l) (headed verdictLowest verdictHighest l)
     (lineKey l) (decimal l 6 1) (decimal l 8 8) (decimal l 9 1) (decimal l 11 1) (bytesIn (hexFrom 17 l)) (bytesIn (hexFrom 8 l)) (bytesIn (hexFrom 13 l)) (bytes-small (hexFrom 8 l))
 
 lines-reach : (ls : List (List ℕ)) (g : Gate) (t : Since) → Reached t g → Reached (sinceLines g t ls) (runLines g ls)

@@ -6,7 +6,7 @@ use mathlib.Core.List.{List, [], _∷_, _++_}
 use Prim.Native.Nat.{ℕ, _+_, _*_, _/_, _%_, _≤_}
 use lib.Dec.{eqb, ltb}
 use lib.ListN.{length, set, take, drop, replicate}
-use Rattle.card.specs.Command.{aidMost}
+use Rattle.card.specs.Command.{commandMost}
 use Rattle.text.specs.Hex.{hexOf}
 use Rattle.session.specs.Tables.{stampSize}
 use Rattle.session.specs.Operation.{dead, openOf, commandOf, answerOf, answerBuffer, verdictOf, stampAnswer, stampBuffer}
@@ -42,9 +42,9 @@ mostCards = 1024
 abbrev pub hasRoom : Gate → Bool
 hasRoom g = ltb (length (g .keys)) mostCards
 
--- The size of the buffer lent to a command call: SELECT with the longest AID is the longest command.
+-- The size of the buffer lent to a command call: the longest command fits.
 abbrev pub commandRoom : ℕ
-commandRoom = aidMost + 6
+commandRoom = commandMost
 
 -- "Before each answer it makes the command call itself"
 abbrev pub commanded : Gate → Session
@@ -74,7 +74,7 @@ unfoldable pub replyTo : Gate → GateLine → LineReply
 replyTo g (GateLine.card key) = cond (hasRoom g) Ok Bad
 replyTo g (GateLine.opening mode date aid) = replyBy (openOf mode date aid .0)
 replyTo g (GateLine.answer bytes) = replyBy (answerOf (commanded g) (g .object) bytes (g .keys) .0)
-replyTo g (GateLine.verdict kind value fascn) = replyBy (verdictOf (g .session) kind value fascn .0)
+replyTo g (GateLine.verdict kind yesNo fascn) = replyBy (verdictOf (g .session) kind yesNo fascn .0)
 replyTo g GateLine.bad = Bad
 
 -- The count of cards and their buffer then: a card that is kept is written after those before it, and every other place stays.
@@ -82,7 +82,7 @@ unfoldable pub cardsAfter : State → List ℕ → GateLine → ℕ × List ℕ
 cardsAfter st cards (GateLine.card key) = cond (ltb (st .cards) mostCards) (st .cards + 1, set cards (st .cards) key) (st .cards, cards)
 cardsAfter st cards (GateLine.opening mode date aid) = (st .cards, cards)
 cardsAfter st cards (GateLine.answer bytes) = (st .cards, cards)
-cardsAfter st cards (GateLine.verdict kind value fascn) = (st .cards, cards)
+cardsAfter st cards (GateLine.verdict kind yesNo fascn) = (st .cards, cards)
 cardsAfter st cards GateLine.bad = (st .cards, cards)
 
 -- ---- text

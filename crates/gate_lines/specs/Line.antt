@@ -33,8 +33,8 @@ abbrev pub openHighest : List ℕ
 openHighest = 0x28 ∷ 0x6F ∷ 0x70 ∷ 0x65 ∷ 0x6E ∷ 0x20 ∷ 0x39 ∷ 0x20 ∷ 0x39 ∷ 0x39 ∷ 0x39 ∷ 0x39 ∷ 0x39 ∷ 0x39 ∷ 0x39 ∷ 0x39 ∷ 0x20 ∷ []
 
 -- `(answer `
-abbrev pub answerHead : List ℕ
-answerHead = 0x28 ∷ 0x61 ∷ 0x6E ∷ 0x73 ∷ 0x77 ∷ 0x65 ∷ 0x72 ∷ 0x20 ∷ []
+abbrev pub answerOpens : List ℕ
+answerOpens = 0x28 ∷ 0x61 ∷ 0x6E ∷ 0x73 ∷ 0x77 ∷ 0x65 ∷ 0x72 ∷ 0x20 ∷ []
 
 -- `(verdict 0 0 ` and `(verdict 9 9 `
 abbrev pub verdictLowest : List ℕ
@@ -42,6 +42,16 @@ verdictLowest = 0x28 ∷ 0x76 ∷ 0x65 ∷ 0x72 ∷ 0x64 ∷ 0x69 ∷ 0x63 ∷ 0
 
 abbrev pub verdictHighest : List ℕ
 verdictHighest = 0x28 ∷ 0x76 ∷ 0x65 ∷ 0x72 ∷ 0x64 ∷ 0x69 ∷ 0x63 ∷ 0x74 ∷ 0x20 ∷ 0x39 ∷ 0x20 ∷ 0x39 ∷ 0x20 ∷ []
+
+-- How many bytes each has.
+abbrev pub openHead : ℕ
+openHead = length openLowest
+
+abbrev pub answerHead : ℕ
+answerHead = length answerOpens
+
+abbrev pub verdictHead : ℕ
+verdictHead = length verdictLowest
 
 -- What stands from place n on, but for the last byte.
 unfoldable pub hexFrom : ℕ → List ℕ → List ℕ
@@ -58,9 +68,9 @@ headed lowest highest s =
 -- of a line that is no card
 unfoldable pub callIn : List ℕ → GateLine
 callIn s =
-    cond (headed openLowest openHighest s) (opening (decimal s 6 1) (decimal s 8 8) (bytesIn (hexFrom 17 s)))
-    (cond (headed answerHead answerHead s) (answer (bytesIn (hexFrom 8 s)))
-    (cond (headed verdictLowest verdictHighest s) (verdict (decimal s 9 1) (decimal s 11 1) (bytesIn (hexFrom 13 s))) bad))
+    cond (headed openLowest openHighest s) (opening (decimal s 6 1) (decimal s 8 8) (bytesIn (hexFrom openHead s)))
+    (cond (headed answerOpens answerOpens s) (answer (bytesIn (hexFrom answerHead s)))
+    (cond (headed verdictLowest verdictHighest s) (verdict (decimal s 9 1) (decimal s 11 1) (bytesIn (hexFrom verdictHead s))) bad))
 
 unfoldable pub lineIn : List ℕ → GateLine
 lineIn s = cond (ltb longest (length s)) bad (cond (goodCard s) (card (lineKey s)) (callIn s))
@@ -68,15 +78,15 @@ lineIn s = cond (ltb longest (length s)) bad (cond (goodCard s) (card (lineKey s
 -- What the code's answer says of the line s.
 abbrev pub lineBy : Line → List ℕ → GateLine
 lineBy (lines.Card key) s = card key
-lineBy (lines.Open mode date) s = opening mode date (bytesIn (hexFrom 17 s))
-lineBy lines.Answer s = answer (bytesIn (hexFrom 8 s))
-lineBy (lines.Verdict kind yesNo) s = verdict kind yesNo (bytesIn (hexFrom 13 s))
+lineBy (lines.Open mode date) s = opening mode date (bytesIn (hexFrom openHead s))
+lineBy lines.Answer s = answer (bytesIn (hexFrom answerHead s))
+lineBy (lines.Verdict kind yesNo) s = verdict kind yesNo (bytesIn (hexFrom verdictHead s))
 lineBy lines.Bad s = bad
 
 -- What the code's answer says of the line's length: HEX stands between its head and the last byte, and the line is not too long.
 abbrev pub Fits : Line → List ℕ → Type 0
 Fits (lines.Card key) s = Unit
-Fits (lines.Open mode date) s = (20 ≤ length s) × (length s ≤ longest)
-Fits lines.Answer s = (11 ≤ length s) × (length s ≤ longest)
-Fits (lines.Verdict kind yesNo) s = (16 ≤ length s) × (length s ≤ longest)
+Fits (lines.Open mode date) s = (openHead + 3 ≤ length s) × (length s ≤ longest)
+Fits lines.Answer s = (answerHead + 3 ≤ length s) × (length s ≤ longest)
+Fits (lines.Verdict kind yesNo) s = (verdictHead + 3 ≤ length s) × (length s ≤ longest)
 Fits lines.Bad s = Unit

@@ -8,7 +8,7 @@ use Rattle.card.specs.Lists.{listOf}
 use Rattle.text.specs.Hex.{hexOf}
 use Rattle.ccl.specs.Line.{keyLimit, space, cardText}
 use Rattle.session.specs.Promise.{Bytes}
-use Rattle.gate_lines.specs.Line.{GateLine, answerHead}
+use Rattle.gate_lines.specs.Line.{GateLine, answerOpens}
 use Rattle.gate_lines.specs.Gate.{decimalDigit}
 
 -- The last n decimal digits of x in ASCII, the highest first.
@@ -37,7 +37,7 @@ withHex head bytes = head ++ hexOf bytes ++ (0x29 ∷ [])
 unfoldable pub textOfLine : GateLine → List ℕ
 textOfLine (GateLine.card key) = cardText key
 textOfLine (GateLine.opening mode date aid) = withHex (openText mode date) aid
-textOfLine (GateLine.answer bytes) = withHex answerHead bytes
+textOfLine (GateLine.answer bytes) = withHex answerOpens bytes
 textOfLine (GateLine.verdict kind yesNo fascn) = withHex (verdictText kind yesNo) fascn
 textOfLine GateLine.bad = []
 

@@ -7,10 +7,17 @@ ghost use mathlib.Core.Path.{_≡_};
 ghost use Prim.Native.Nat.{_+_, _≤_, _<_};
 ghost use lib.ListN.{length};
 ghost use Rattle.text.specs.Form.{decimal};
-ghost use Rattle.gate_lines.specs.Line.{longest, hexFrom, headed, callIn, lineIn, lineBy, Fits};
+ghost use Rattle.gate_lines.specs.Line.{longest, openHead, hexFrom, headed, callIn, lineIn, lineBy, Fits};
 
 // The most bytes of a line, its 0A not counted; `longest` in the definitions.
 pub(crate) const LONGEST: usize = 1024;
+
+// The bytes before HEX in a line of each kind; `openHead`, `answerHead` and `verdictHead` in the definitions.
+pub(crate) const OPEN_HEAD: usize = 17;
+
+pub(crate) const ANSWER_HEAD: usize = 8;
+
+pub(crate) const VERDICT_HEAD: usize = 13;
 
 // What a line is; the bytes that HEX spells are read from the line when they are needed. `lineBy` gives the whole value.
 pub enum Line {
@@ -37,7 +44,7 @@ pub(crate) fn hex_from(s: &[u8], n: usize) -> &[u8]
 
 // Whether the line is a head of the form of the two strings, then HEX, then `)`.
 fn headed(lowest: &[u8], highest: &[u8], s: &[u8]) -> bool
-    requires { ⌜ length (now lowest) ≤ 17 ⌝ }
+    requires { ⌜ length (now lowest) ≤ openHead ⌝ }
     ensures { λ r. ⌜ r ≡ headed (now (lowest .entry)) (now (highest .entry)) (now (s .entry)) ⌝ }
 {
     let n = lowest.len();

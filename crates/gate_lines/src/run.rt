@@ -1,12 +1,15 @@
 // One line of the program: the calls that it makes, the new state and what it prints.
 use crate::line;
+use crate::line::ANSWER_HEAD;
 use crate::line::LONGEST;
 use crate::line::Line;
+use crate::line::OPEN_HEAD;
+use crate::line::VERDICT_HEAD;
 use crate::state::CARDS;
 use crate::state::LineReply;
 use crate::state::LineRun;
 use crate::state::State;
-use card::command::AID_MOST;
+use card::command::COMMAND_MOST;
 use session::open;
 use session::state::Answered;
 use text::hex;
@@ -21,11 +24,8 @@ ghost use Rattle.session.specs.Operation.{dead, given, openOf, verdictOf};
 ghost use Rattle.gate_lines.specs.Line.{GateLine, longest, lineIn};
 ghost use Rattle.gate_lines.specs.Gate.{gateOf, gateAfter, mostCards, replyBy, replyTo, cardsAfter};
 
-// The most bytes that HEX of a line spells, and the size of the buffer lent to a command call: SELECT with the longest AID is the longest command; `commandRoom` in the
-// definitions.
+// The most bytes that HEX of a line spells.
 const BYTES: usize = LONGEST / 2;
-
-const COMMAND: usize = AID_MOST + 6;
 
 // The program's state before the first line.
 pub fn start() -> State
@@ -114,7 +114,7 @@ impl State {
     {
         let mut bytes = [0u8; BYTES];
         let n = hex::read(spelled, &mut bytes);
-        let mut out = [0u8; COMMAND];
+        let mut out = [0u8; COMMAND_MOST];
         let session = self.session;
         let sent = session.command(&mut out);
         let ready = sent.session;
@@ -145,9 +145,9 @@ impl State {
         let kind = line::read(s);
         match kind {
             Line::Card(key) => self.card_line(cards, key),
-            Line::Open(mode, date) => self.open_line(mode, date, line::hex_from(s, 17)),
-            Line::Answer => self.answer_line(cards, object, line::hex_from(s, 8)),
-            Line::Verdict(of, yes) => self.verdict_line(of, yes, line::hex_from(s, 13)),
+            Line::Open(mode, date) => self.open_line(mode, date, line::hex_from(s, OPEN_HEAD)),
+            Line::Answer => self.answer_line(cards, object, line::hex_from(s, ANSWER_HEAD)),
+            Line::Verdict(of, yes) => self.verdict_line(of, yes, line::hex_from(s, VERDICT_HEAD)),
             Line::Bad => LineRun {
                 state: self,
                 reply: LineReply::Bad,

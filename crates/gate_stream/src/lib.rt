@@ -108,7 +108,7 @@ fn run_block(
 }
 
 // What is gathered is written.
-fn written(at: BlockState, out: &[u8]) -> BlockState
+fn write_gathered(at: BlockState, out: &[u8]) -> BlockState
     requires { ⌜ at .gathered ≤ length (now out) ⌝ }
     ensures { λ r. ⌜ (r .state ≡ at .state) × (r .held ≡ at .held) × (r .gathered ≡ 0) ⌝ }
 {
@@ -140,7 +140,7 @@ fn one_block(
     at.used = 0;
     at.more = 0 < n;
     let done = run_block(at, cards, object, line, out, &input[..n]);
-    written(done, out)
+    write_gathered(done, out)
 }
 
 // Blocks to the end of the input. A proved loop has to end, and nothing says that the input does: the turns are counted down from a number that no run uses up.
@@ -216,7 +216,7 @@ fn run_whole(
 }
 
 // The program on the file descriptor fd.
-pub fn run(fd: i32) {
+pub fn run_gate(fd: i32) {
     let mut cards = [0u64; CARDS];
     let mut object = [0u8; OBJECT];
     let mut line = [0u8; HELD];

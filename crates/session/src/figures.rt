@@ -29,7 +29,6 @@ pub(crate) const FULL_CAUSE: u8 = 18;
 
 pub(crate) const FASCN_CAUSE: u8 = 21;
 
-
 // Standings: 0 open, 1 granted, 2 rejected.
 pub(crate) const OPEN: u8 = 0;
 

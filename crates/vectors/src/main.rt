@@ -29,7 +29,7 @@ fn run_line(s: &[u8]) {
     print::text(b"\n");
 }
 
-fn run(s: &[u8]) {
+fn run_vectors(s: &[u8]) {
     let mut at: usize = 0;
     while at < s.len() {
         let next = line::find(s, at, b'\n');
@@ -42,5 +42,5 @@ fn main() {
     report::fascn::codes();
     let mut input = io::large_buffer();
     let n = io::read_full(0, &mut input);
-    run(&input[..n]);
+    run_vectors(&input[..n]);
 }

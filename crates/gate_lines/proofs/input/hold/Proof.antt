@@ -6,19 +6,19 @@ use borrow.Author.Needs.{needs}
 use lib.ListN.{length, getD, length-set}
 use Rattle.card.specs.Lists.{written}
 use Rattle.card.proofs.ListsLaws.{written-none, written-more}
-use Rattle.gate_lines.specs.Input.{heldAfter, lineAfter}
+use Rattle.gate_lines.specs.Input.{mostHeld, heldAfter, lineAfter}
 use Rattle.gate_lines.proofs.input.hold.Statement.{statement}
 use Rattle.gate_lines.proofs.input.hold.Tie as tie
 
 abbrev Inv-loop : tie.InvT-loop
 Inv-loop line₀ held block from end most j₀ j-end line j =
-    (most ≡ held + min (end - from) (1025 - held)) × (j ≤ most - held) × (line ≡ written line₀ held j (λ i. getD block (from + i) 0)) × (length line ≡ 1025)
+    (most ≡ held + min (end - from) (mostHeld - held)) × (j ≤ most - held) × (line ≡ written line₀ held j (λ i. getD block (from + i) 0)) × (length line ≡ mostHeld)
 
 abbrev μ-loop : tie.MeasureT-loop
 μ-loop line₀ held block from end most j₀ j-end line j = most - held - j
 
 most-is : (c : tie.After-held-after Inv-loop μ-loop)
-    → let a = c .before .before .before .args in c .held-after .result ≡ a .held + min (a .end - a .from) (1025 - a .held)
+    → let a = c .before .before .before .args in c .held-after .result ≡ a .held + min (a .end - a .from) (mostHeld - a .held)
 unfolding heldAfter
 most-is c = c .held-after .ensures .0
 
@@ -57,7 +57,7 @@ unfolding lineAfter
 returns c =
     let at = c .before in
     let a = c .before .before .before .before .before .args in
-    let e : at .loop .j ≡ min (a .end - a .from) (1025 - a .held) = omega (arith, at .loop .inv .0) in
+    let e : at .loop .j ≡ min (a .end - a .from) (mostHeld - a .held) = omega (arith, at .loop .inv .0) in
     (at .before .held-after .ensures .0, rw e at (at .loop .inv .2))
 
 pub hold-spec : {M : Type 1} → statement M

@@ -6,7 +6,7 @@ use Prim.Native.Nat.{ℕ, _≤_}
 use native.Mathlib.Omega.{arith}
 use borrow.Author.Needs.{needs}
 use lib.ListN.{length}
-use Rattle.gate_lines.specs.Line.{longest, openLowest, openHighest, answerHead, verdictLowest, verdictHighest, headed, callIn}
+use Rattle.gate_lines.specs.Line.{longest, openLowest, openHighest, answerOpens, verdictLowest, verdictHighest, headed, callIn}
 use Rattle.gate_lines.proofs.LineLaws.{headed-room}
 use Rattle.gate_lines.proofs.line.call_line.Statement.{statement}
 use Rattle.gate_lines.proofs.line.call_line.Tie as tie
@@ -31,10 +31,10 @@ open-is c = sym (c .before .headed .ensures) ∙ c .if1 .taken
 not-open : (c : tie.Else1) → headed openLowest openHighest (first (c .before)) ≡ false
 not-open c = sym (c .before .headed .ensures) ∙ c .if1 .left
 
-answer-is : (c : tie.Then2) → headed answerHead answerHead (second (c .before)) ≡ true
+answer-is : (c : tie.Then2) → headed answerOpens answerOpens (second (c .before)) ≡ true
 answer-is c = sym (c .before .headed2 .ensures) ∙ c .if2 .taken
 
-not-answer : (c : tie.Else2) → headed answerHead answerHead (second (c .before)) ≡ false
+not-answer : (c : tie.Else2) → headed answerOpens answerOpens (second (c .before)) ≡ false
 not-answer c = sym (c .before .headed2 .ensures) ∙ c .if2 .left
 
 verdict-is : (c : tie.Then3) → headed verdictLowest verdictHighest (third (c .before)) ≡ true
@@ -57,7 +57,7 @@ returns-2 : tie.Need-returns-2
 unfolding callIn
 returns-2 c =
     let at = c .before .before .before .before in
-    (rw (not-open at, answer-is c), (headed-room answerHead answerHead (second (c .before)) (answer-is c), short (at .before)))
+    (rw (not-open at, answer-is c), (headed-room answerOpens answerOpens (second (c .before)) (answer-is c), short (at .before)))
 
 returns-3 : tie.Need-returns-3
 unfolding callIn
