@@ -8,7 +8,7 @@ use Prim.Native.Nat.{ℕ, zero, suc, _+_, _-_, _≤_, _<_}
 use native.Mathlib.Nat.{not-suc-le-zero, le-of-suc-le-suc, le-step, le-refl, eq-or-lt-of-le, add-zero, add-suc, zero-add}
 use native.Mathlib.Numerals.{add-one}
 use native.Mathlib.Omega.{arith}
-use lib.ListN.{length, getD, set, take, drop, length-append, length-drop, take-append-drop, List·getD-append}
+use lib.ListN.{length, getD, set, take, drop, length-append, length-drop, take-append-drop, List·getD-append, length-take}
 use lib.Seq.{drop-cons, drop-length, length-take-le, append-snoc, set-at, getD-at, ext-getD, take-at, drop-at, drop-drop, take-append-seam, drop-append-add, getD-append-add, getD-drop}
 use Rattle.card.specs.Lists.{listOf, all, written, overFront, overPlaces}
 
@@ -119,23 +119,27 @@ front-end l n f e p = p ∙ rw (zero-add, e, drop-length, append-nil)
 -- ---- a list stored in another
 
 -- a list stored from the first place on stands in front
-pub stored-first : (d s : List ℕ) → overPlaces d 0 s ≡ overFront s d
+pub over-first : (d s : List ℕ) → overPlaces d 0 s ≡ overFront s d
 unfolding overFront overPlaces
-stored-first d s = rw zero-add
+over-first d s = rw zero-add
 
 -- one stored right after the front makes the front longer
-pub stored-next : (p s d : List ℕ) {l : List ℕ} {n : ℕ} → l ≡ overFront p d → n ≡ length p → overPlaces l n s ≡ overFront (p ++ s) d
+pub over-next : (p s d : List ℕ) {l : List ℕ} {n : ℕ} → l ≡ overFront p d → n ≡ length p → overPlaces l n s ≡ overFront (p ++ s) d
 unfolding overFront overPlaces
-stored-next p s d e k = rw (e, k, take-append-seam, drop-append-add, drop-drop, length-append)
+over-next p s d e k = rw (e, k, take-append-seam, drop-append-add, drop-drop, length-append)
 
 -- a list written whole is stored
-pub written-stored : (d s : List ℕ) (at : ℕ) → written d at (length s) (λ j. getD s (0 + j) 0) ≡ overPlaces d at s
+pub written-over : (d s : List ℕ) (at : ℕ) → written d at (length s) (λ j. getD s (0 + j) 0) ≡ overPlaces d at s
 unfolding written overPlaces
-written-stored d s at =
+written-over d s at =
     ap (λ (t : List ℕ). take at d ++ t ++ drop (at + length s) d)
     (listOf-is (length s) (λ j. getD s (0 + j) 0) s refl (λ i b. ap (λ (j : ℕ). getD s j 0) (zero-add i)))
 
--- a list with another over its front is as long as it was
+-- a list with another over its places, or over its front, is as long as it was
+pub length-over : (l s : List ℕ) (at : ℕ) → at + length s ≤ length l → length (overPlaces l at s) ≡ length l
+unfolding overPlaces
+length-over l s at h = simp (length-append, length-take, length-drop) (omega arith)
+
 pub length-front : (s l : List ℕ) → length s ≤ length l → length (overFront s l) ≡ length l
 unfolding overFront
 length-front s l h = rw (length-append, length-drop) (omega arith)

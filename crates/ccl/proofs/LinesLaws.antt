@@ -8,7 +8,7 @@ use native.Mathlib.Omega.{arith}
 use lib.ListN.{length, getD, take, drop, length-append, length-drop}
 use lib.Seq.{take-suc, length-take-le}
 use Rattle.card.specs.Lists.{overFront, overPlaces}
-use Rattle.card.proofs.ListsLaws.{stored-next}
+use Rattle.card.proofs.ListsLaws.{over-next}
 use Rattle.ccl.specs.Line.{lineOf}
 use Rattle.ccl.specs.ListText.{lineAt, linesOf}
 use Rattle.ccl.proofs.LineLaws.{length-line}
@@ -47,8 +47,8 @@ unfolding linesOf
 text-more keys i h = rw (add-one, take-suc keys i 0 h, text-append (take i keys) (getD keys i 0 ∷ []), append-nil)
 
 -- the text of the first i keys stands in front, and the line of key i is stored after it
-pub line-stored : (keys d : List ℕ) (i : ℕ) {l s : List ℕ} → i < length keys → l ≡ overFront (linesOf (take i keys)) d → s ≡ lineOf (getD keys i 0)
+pub line-over : (keys d : List ℕ) (i : ℕ) {l s : List ℕ} → i < length keys → l ≡ overFront (linesOf (take i keys)) d → s ≡ lineOf (getD keys i 0)
     → overPlaces l (32 * i) s ≡ overFront (linesOf (take (i + 1) keys)) d
-line-stored keys d i h p q =
+line-over keys d i h p q =
     rw (text-more keys i h, q)
-    (stored-next (linesOf (take i keys)) (lineOf (getD keys i 0)) d p (sym (length-first keys i (omega arith))))
+    (over-next (linesOf (take i keys)) (lineOf (getD keys i 0)) d p (sym (length-first keys i (omega arith))))

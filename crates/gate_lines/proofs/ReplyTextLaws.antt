@@ -5,7 +5,7 @@ use mathlib.Core.List.{List, [], _++_}
 use Prim.Native.Nat.{ℕ, _+_, _*_, _≤_, min}
 use native.Mathlib.Nat.{le-of-eq}
 use native.Mathlib.Omega.{arith}
-use lib.ListN.{length, take, length-append, length-drop}
+use lib.ListN.{length, take, length-append}
 use lib.Seq.{take-at, length-take-le}
 use Rattle.card.specs.Lists.{overPlaces, written}
 use Rattle.session.specs.Tables.{stampSize}
@@ -20,13 +20,9 @@ use Rattle.gate_lines.specs.declared.state.Text.{Text}
 length-kept : (b s : List ℕ) (n : ℕ) → n + length s ≤ length b → length (take n b ++ s) ≡ n + length s
 length-kept b s n h = rw (length-append, length-take-le n b (omega arith))
 
-pub stored-after : (b s : List ℕ) (n : ℕ) → n + length s ≤ length b → take (n + length s) (overPlaces b n s) ≡ take n b ++ s
+pub over-after : (b s : List ℕ) (n : ℕ) → n + length s ≤ length b → take (n + length s) (overPlaces b n s) ≡ take n b ++ s
 unfolding overPlaces
-stored-after b s n h = take-at (take n b ++ s) _ (n + length s) (length-kept b s n h)
-
-pub length-stored : (b s : List ℕ) (n : ℕ) → n + length s ≤ length b → length (overPlaces b n s) ≡ length b
-unfolding overPlaces
-length-stored b s n h = rw (length-append, length-kept b s n h, length-drop) (omega arith)
+over-after b s n h = take-at (take n b ++ s) _ (n + length s) (length-kept b s n h)
 
 -- ---- a text made of parts
 

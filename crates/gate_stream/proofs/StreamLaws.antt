@@ -19,7 +19,7 @@ use Rattle.gate_lines.specs.Run.{runLines, EndPromise}
 use Rattle.gate_lines.specs.Input.{InputState, inputStateOf, inputAfter, partFrom, linesIn, inputStart, lastGate}
 use Rattle.gate_lines.specs.declared.state.State.{State}
 use Rattle.gate_lines.proofs.InputLaws.{feed-append, whole-gate}
-use Rattle.gate_lines.proofs.ReplyTextLaws.{stored-after}
+use Rattle.gate_lines.proofs.ReplyTextLaws.{over-after}
 use Rattle.gate_stream.specs.Stream.{Fed, gatherSize, gatheredAfter, EndsFor}
 
 -- ---- fed
@@ -67,7 +67,7 @@ used-up u n false e h m = clash m
 pub gather-more : (out text left : List ℕ) (gathered n : ℕ) → gathered ≤ gatherSize - textSize → n ≡ length text → gathered + length text ≤ length out → left ≡ overPlacesWhere out gathered text
     → take (gathered + n) left ≡ gatheredAfter out gathered text
 unfolding gatheredAfter
-gather-more out text left gathered n h e f p = rw (p, store-fits out text gathered f, e, le-leb gathered (gatherSize - textSize) h) (stored-after out text gathered f)
+gather-more out text left gathered n h e f p = rw (p, store-fits out text gathered f, e, le-leb gathered (gatherSize - textSize) h) (over-after out text gathered f)
 
 pub gather-anew : (out text left : List ℕ) (gathered n : ℕ) → gatherSize - textSize < gathered → n ≡ length text → length text ≤ length out → left ≡ overPlacesWhere out 0 text
     → take n left ≡ gatheredAfter out gathered text

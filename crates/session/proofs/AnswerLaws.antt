@@ -8,6 +8,7 @@ use native.Mathlib.Omega.{arith}
 use borrow.Author.Tests.{eqb-true, not-false, leb-true}
 use lib.Dec.{eqb, leb}
 use lib.ListN.{length, getD, take, drop, length-append}
+use Rattle.card.proofs.ListsLaws.{length-over}
 use Rattle.card.specs.Lists.{overPlaces}
 use Rattle.card.specs.Command.{statusOf}
 use Rattle.card.specs.declared.command.Status.{Status}
@@ -26,7 +27,7 @@ use Rattle.session.proofs.BytesLaws.{append-bytes}
 use Rattle.session.proofs.Invariant.{next-same, session-of, progress-of, Held, GoodOne, OneHeld, TwoHeld, Stage, Invariant, StandsFor}
 use Rattle.session.proofs.InRangeLaws.{in-range}
 use Rattle.session.proofs.FigureLaws.{base-fits, steps-apart}
-use Rattle.session.proofs.BufferLaws.{holds-more, before-stays, stored-length}
+use Rattle.session.proofs.BufferLaws.{holds-more, before-stays}
 use Rattle.session.proofs.GoodEndLaws.{Leaves, good-end}
 use Rattle.session.specs.declared.state.Session.{Session}
 
@@ -84,7 +85,7 @@ keep-one mode step at f m xs (Stage.between e one n) lt room old =
     let apart = steps-apart mode in
     let small = k .small in
     subst (λ (x : Found). OneHeld mode (x .step1) (overPlaces m (baseOf step + at) xs)) (sym n)
-    (was .0, record { whole = stored-length m xs (baseOf step + at) room ∙ k .whole; small = small; held = before-stays m xs (baseOf 1) (length (one .joined)) (baseOf step + at) (omega (arith, apart, small, b)) room ∙ k .held })
+    (was .0, record { whole = length-over m xs (baseOf step + at) room ∙ k .whole; small = small; held = before-stays m xs (baseOf 1) (length (one .joined)) (baseOf step + at) (omega (arith, apart, small, b)) room ∙ k .held })
 keep-one mode step at f m xs (Stage.late e one n) lt room old = absurd (omega arith)
 
 keep-two : (mode step : ℕ) (f : Found) (m : List ℕ) → Stage step f → step < 3 → TwoHeld mode (f .step2) m
@@ -109,7 +110,7 @@ module _ (r : Reading) (m xs : List ℕ) (i : Invariant r m) (size : length m �
 
   leaves-more : Leaves r (overPlaces m (base + length old) xs)
   leaves-more =
-      record { size = stored-length m xs (base + length old) room ∙ size; one = keep-one (r .opening .mode) (r .progress .step) (length old) (r .found) m xs (i .stage) lt room (i .one); two = keep-two (r .opening .mode) (r .progress .step) (r .found) (overPlaces m (base + length old) xs) (i .stage) lt }
+      record { size = length-over m xs (base + length old) room ∙ size; one = keep-one (r .opening .mode) (r .progress .step) (length old) (r .found) m xs (i .stage) lt room (i .one); two = keep-two (r .opening .mode) (r .progress .step) (r .found) (overPlaces m (base + length old) xs) (i .stage) lt }
 
   new-held : take (length (old ++ xs)) (drop base (overPlaces m (base + length old) xs)) ≡ old ++ xs
   new-held = rw length-append (holds-more m old xs base room (i .held))

@@ -4,8 +4,9 @@ use mathlib.Core.Path.{_≡_, sym, ap, _∙_}
 use mathlib.Core.List.{List, _++_, append-assoc}
 use Prim.Native.Nat.{ℕ, _+_, _≤_}
 use native.Mathlib.Omega.{arith}
-use lib.ListN.{length, take, drop, length-append, length-take, length-drop}
+use lib.ListN.{length, take, drop}
 use lib.Seq.{take-append-seam, take-append-add, take-add, take-append-le, drop-at, length-take-le, take-take}
+use Rattle.card.proofs.ListsLaws.{length-over}
 use Rattle.card.specs.Lists.{overPlaces}
 
 -- data that is stored after what is held
@@ -14,10 +15,6 @@ module _ (m j xs : List ℕ) (base : ℕ) (fits : base + length j + length xs �
   unfolding overPlaces
   holds-more =
       rw (take-add base (length j) m, held, append-assoc, append-assoc, drop-at (take base m) (j ++ (xs ++ drop (base + length j + length xs) m)) base (length-take-le base m (omega arith)), take-append-add, take-append-seam)
-
-pub stored-length : (m xs : List ℕ) (at : ℕ) → at + length xs ≤ length m → length (overPlaces m at xs) ≡ length m
-unfolding overPlaces
-stored-length m xs at h = simp (length-append, length-take, length-drop) (omega arith)
 
 -- what stands before the place that is written stays
 front-stays : (m xs : List ℕ) (n at : ℕ) → n ≤ at → at ≤ length m → take n (overPlaces m at xs) ≡ take n m
@@ -32,5 +29,5 @@ part-end base n l h = sym (ap (drop base) (take-add base n l) ∙ drop-at (take 
 
 pub before-stays : (m xs : List ℕ) (base n at : ℕ) → base + n ≤ at → at + length xs ≤ length m → take n (drop base (overPlaces m at xs)) ≡ take n (drop base m)
 before-stays m xs base n at h k =
-    part-end base n (overPlaces m at xs) (omega (arith, stored-length m xs at k)) ∙ ap (drop base) (front-stays m xs (base + n) at h (omega arith))
+    part-end base n (overPlaces m at xs) (omega (arith, length-over m xs at k)) ∙ ap (drop base) (front-stays m xs (base + n) at h (omega arith))
     ∙ sym (part-end base n m (omega arith))

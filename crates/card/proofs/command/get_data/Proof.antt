@@ -2,7 +2,7 @@
 use mathlib.Core.Path.{refl, sym, _∙_}
 use borrow.Author.Needs.{needs}
 use Rattle.card.specs.Command.{getDataBytes, getDataOf}
-use Rattle.card.proofs.ListsLaws.{stored-first, stored-next}
+use Rattle.card.proofs.ListsLaws.{over-first, over-next}
 use Rattle.card.proofs.CommandLaws.{tag-length, get-data-length, command-fits, command-short}
 use Rattle.card.proofs.command.get_data.Statement.{statement}
 use Rattle.card.proofs.command.get_data.Tie as tie
@@ -18,10 +18,10 @@ returns-2 c =
     let at1 = at2 .before .before .before .before .before in
     let tag = at1 .before .before .before in
     let a = tag .before .before .before .args in
-    let first = at1 .put .ensures ∙ stored-first _ _ in
-    let second = rw (tag .object-tag .ensures) at (at2 .put2 .ensures) ∙ stored-next _ _ _ first refl in
+    let first = at1 .put .ensures ∙ over-first _ _ in
+    let second = rw (tag .object-tag .ensures) at (at2 .put2 .ensures) ∙ over-next _ _ _ first refl in
     command-fits (getDataBytes (a .kind)) (a .out .now) (rw get-data-length (tag .before .if1 .left)) (sym (get-data-length (a .kind)))
-    (c .before .before .put3 .ensures ∙ stored-next _ _ _ second (rw tag-length))
+    (c .before .before .put3 .ensures ∙ over-next _ _ _ second (rw tag-length))
 
 pub get-data-spec : {M : Type 1} → statement M
 get-data-spec =

@@ -2,7 +2,7 @@
 use mathlib.Core.Path.{refl, _∙_}
 use borrow.Author.Needs.{needs}
 use Rattle.card.specs.Command.{getResponseBytes, getResponseOf}
-use Rattle.card.proofs.ListsLaws.{stored-first, stored-next}
+use Rattle.card.proofs.ListsLaws.{over-first, over-next}
 use Rattle.card.proofs.CommandLaws.{command-fits, command-short}
 use Rattle.card.proofs.command.get_response.Statement.{statement}
 use Rattle.card.proofs.command.get_response.Tie as tie
@@ -17,8 +17,8 @@ returns-2 c =
     let at1 = c .before .before .before .before .before .before .before in
     let test = at1 .before .before .before in
     let a = test .before .before .args in
-    let first = at1 .put .ensures ∙ stored-first _ _ in
-    command-fits (getResponseBytes (a .second)) (a .out .now) (test .if1 .left) refl (c .before .before .put2 .ensures ∙ stored-next _ _ _ first refl)
+    let first = at1 .put .ensures ∙ over-first _ _ in
+    command-fits (getResponseBytes (a .second)) (a .out .now) (test .if1 .left) refl (c .before .before .put2 .ensures ∙ over-next _ _ _ first refl)
 
 pub get-response-spec : {M : Type 1} → statement M
 get-response-spec =

@@ -6,7 +6,7 @@ use native.Mathlib.Omega.{arith}
 use borrow.Author.Needs.{needs}
 use lib.ListN.{length, getD}
 use Rattle.card.specs.Lists.{written}
-use Rattle.card.proofs.ListsLaws.{written-none, written-more, length-written, written-stored}
+use Rattle.card.proofs.ListsLaws.{written-none, written-more, length-written, written-over}
 use Rattle.ccl.proofs.list.put_line.Statement.{statement}
 use Rattle.ccl.proofs.list.put_line.Tie as tie
 
@@ -35,7 +35,7 @@ returns : tie.Need-returns Inv-loop μ-loop
 returns c =
     let a = c .before .before .args in
     let e : c .before .loop .j ≡ length (a .line .now) = omega arith in
-    rw e at (c .before .loop .inv .1) ∙ written-stored (a .out .now) (a .line .now) (a .at)
+    rw e at (c .before .loop .inv .1) ∙ written-over (a .out .now) (a .line .now) (a .at)
 
 pub put-line-spec : {M : Type 1} → statement M
 put-line-spec =

@@ -9,7 +9,7 @@ use Rattle.card.specs.Lists.{overFront}
 use Rattle.card.proofs.ListsLaws.{length-front}
 use Rattle.ccl.specs.ListText.{linesOf}
 use Rattle.ccl.proofs.LineLaws.{length-line}
-use Rattle.ccl.proofs.LinesLaws.{length-first, line-stored}
+use Rattle.ccl.proofs.LinesLaws.{length-first, line-over}
 use Rattle.ccl.proofs.list.put_lines.Statement.{statement}
 use Rattle.ccl.proofs.list.put_lines.Tie as tie
 
@@ -41,7 +41,7 @@ loop-again c =
     let a = at .before .before .before .args in (
       search needs,
       at .loop .inv .1,
-      put .put-line .ensures ∙ line-stored (a .keys .now) (a .out .now) (at .loop .i) (omega arith) (at .loop .inv .2) (put .before .before .before .line-of .ensures),
+      put .put-line .ensures ∙ line-over (a .keys .now) (a .out .now) (at .loop .i) (omega arith) (at .loop .inv .2) (put .before .before .before .line-of .ensures),
     )
 
 returns : tie.Need-returns Inv-loop μ-loop

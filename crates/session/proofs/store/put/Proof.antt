@@ -6,7 +6,7 @@ use mathlib.Core.Path.{_≡_, sym, ap, _∙_}
 use Prim.Native.Nat.{ℕ, _+_, _-_, _≤_}
 use lib.ListN.{length, getD}
 use Rattle.card.specs.Lists.{written}
-use Rattle.card.proofs.ListsLaws.{written-none, front-more, length-written, written-stored, stored-first}
+use Rattle.card.proofs.ListsLaws.{written-none, front-more, length-written, written-over, over-first}
 use Rattle.session.proofs.store.put.Statement.{statement}
 use Rattle.session.proofs.store.put.Tie as tie
 
@@ -37,7 +37,7 @@ loop-again c =
 returns : tie.Need-returns Inv-loop μ-loop
 returns c =
     let e : c .before .loop .i ≡ length (c .before .before .args .s .now) = omega arith in
-    rw e at (c .before .loop .inv .2) ∙ written-stored _ _ 0 ∙ stored-first _ _
+    rw e at (c .before .loop .inv .2) ∙ written-over _ _ 0 ∙ over-first _ _
 
 pub put-spec : {M : Type 1} → statement M
 put-spec =

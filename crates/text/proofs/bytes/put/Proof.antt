@@ -6,7 +6,7 @@ use mathlib.Core.Path.{_≡_, sym, ap, _∙_}
 use Prim.Native.Nat.{_+_, _-_, _≤_}
 use lib.ListN.{length, getD}
 use Rattle.card.specs.Lists.{written}
-use Rattle.card.proofs.ListsLaws.{written-none, written-more, length-written, written-stored}
+use Rattle.card.proofs.ListsLaws.{written-none, written-more, length-written, written-over}
 use Rattle.text.proofs.bytes.put.Statement.{statement}
 use Rattle.text.proofs.bytes.put.Tie as tie
 
@@ -33,7 +33,7 @@ loop-again c =
 returns : tie.Need-returns Inv-loop μ-loop
 returns c =
     let e : c .before .loop .i ≡ length (c .before .before .args .s .now) = omega arith in
-    rw e at (c .before .loop .inv .2) ∙ written-stored _ _ _
+    rw e at (c .before .loop .inv .2) ∙ written-over _ _ _
 
 pub put-spec : {M : Type 1} → statement M
 put-spec =

@@ -3,7 +3,7 @@ use borrow.Author.Needs.{needs}
 use mathlib.Core.Path.{_≡_, refl, sym, ap, _∙_}
 use native.Mathlib.Omega.{arith}
 use lib.ListN.{length}
-use Rattle.session.proofs.StoreLaws.{stored-five}
+use Rattle.session.proofs.StoreLaws.{over-five}
 use Rattle.session.specs.Tables.{headSize, stampLayout, stampSize}
 use Rattle.session.specs.Operation.{stampHead, stampIn}
 use Rattle.session.specs.declared.state.Session.{Session}
@@ -29,7 +29,7 @@ returns c =
     let head = first .stamp-head in
     let a = first .before .before .args in
     rw (← head .ensures, ← date .ensures, ← expiry .ensures)
-    (stored-five (head .result) (a .self .outcomes) (date .result) (a .self .card .fascn) (expiry .result) (a .out .now)
+    (over-five (head .result) (a .self .outcomes) (date .result) (a .self .card .fascn) (expiry .result) (a .out .now)
     (sym (ap length (head .ensures) ∙ head-length (a .self))) (omega (arith, sizes .before .sized-outcomes .ensures)) (omega (arith, ap length (date .ensures)))
     (omega (arith, sizes .sized-fascn .ensures))
     (at1 .store .ensures) (at2 .store2 .ensures) (at3 .store3 .ensures) (at4 .store4 .ensures) (c .before .before .store5 .ensures))
