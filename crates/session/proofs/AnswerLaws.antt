@@ -13,12 +13,11 @@ use Rattle.card.specs.Lists.{overPlaces}
 use Rattle.card.specs.Command.{statusOf}
 use Rattle.card.specs.declared.command.Status.{Status}
 use Rattle.card.specs.declared.command.Status.the-variants.{Done, More, Other}
-use Rattle.session.specs.Tables.{statusCause, baseOf, capacity, objectSize, isResponse, joinedCause}
+use Rattle.session.specs.Tables.{statusCause, baseOf, capacity, objectSize, isResponse, joinedCause, statusShown}
 use Rattle.session.specs.Condition.{answerConditions}
 use Rattle.session.specs.Reading.{Found, Reading, withProgress, answerRefused, stopped, continued, judged, appended, causeBy, answerTaken}
 use Rattle.session.specs.Ranges.{causeInRange}
 use Rattle.session.specs.Operation.{withSessionProgress, progressStopped, progressContinued, joinedIn, judgedSession, appendedSession, answerTakenSession, answerTakenBuffer, answerRefusal}
-use Rattle.session.specs.Tables.{statusShown}
 use Rattle.session.specs.Promise.{Bytes}
 use Rattle.session.proofs.TestLaws.{clash, and-left, and-right, by-test}
 use Rattle.session.proofs.ConditionLaws.{none-fit}

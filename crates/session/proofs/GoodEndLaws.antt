@@ -17,9 +17,8 @@ use Rattle.session.specs.Tables.{checks, fascnCause, checkServed, outcom
 use Rattle.session.specs.Reading.{Opening, StepOne, Verdict, Found, Reading, withProgress, atStep, step1End, step2End, goodEnd, ownFascn}
 use Rattle.session.specs.Finding.{verdictOn}
 use Rattle.session.specs.Ranges.{stepInRange}
-use Rattle.session.specs.Promise.{Host}
+use Rattle.session.specs.Promise.{Host, Bytes}
 use Rattle.session.specs.Operation.{goodEndSession, step2EndSession}
-use Rattle.session.specs.Promise.{Bytes}
 use Rattle.session.specs.declared.state.Session.{Session}
 use Rattle.session.proofs.TestLaws.{clash, by-test, either}
 use Rattle.session.proofs.ConditionLaws.{none-fit}

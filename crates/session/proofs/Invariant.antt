@@ -12,12 +12,11 @@ use Rattle.card.specs.Fascn.{unpackOf}
 use Rattle.card.specs.Object.{expiryTag, objectOf, fieldValue}
 use Rattle.card.specs.Date.{dateOf}
 use Rattle.card.specs.declared.object.Part.{Part}
-use Rattle.session.specs.Tables.{checks, goodKind, needs, checkServed, outcomeOf, verdictOutcome, expiryOutcome, listOutcome, hasStep2, kindAt, baseOf, capacity, objectSize, NextCommand, fascnRead, keyRead, expiryRead}
+use Rattle.session.specs.Tables.{checks, goodKind, needs, checkServed, outcomeOf, verdictOutcome, expiryOutcome, listOutcome, hasStep2, kindAt, baseOf, capacity, objectSize, NextCommand, fascnRead, keyRead, expiryRead, statusShown}
 use Rattle.session.specs.Reading.{Opening, Progress, StepOne, Verdict, Found, Reading, ownFascn}
 use Rattle.session.specs.Finding.{verdictOn}
 use Rattle.session.specs.Ranges.{stepInRange, causeInRange, outstandingInRange, outcomesInRange}
 use Rattle.session.specs.Operation.{nextOf, noParts}
-use Rattle.session.specs.Tables.{statusShown}
 use Rattle.session.specs.Promise.{Bytes, Host, goodOpening}
 use Rattle.session.specs.declared.state.SessionOpening.{SessionOpening}
 use Rattle.session.specs.declared.state.SessionProgress.{SessionProgress}

@@ -11,7 +11,7 @@ use lib.ListN.{length, getD, take}
 use Rattle.card.specs.Lists.{overFront}
 use Rattle.card.specs.Date.{realDate}
 use Rattle.card.specs.Command.{aidRefused}
-use Rattle.session.specs.Tables.{modeInRange, answersMost, stampSize}
+use Rattle.session.specs.Tables.{modeInRange, standsGranted, answersMost, stampSize}
 use Rattle.session.specs.Ranges.{inRange}
 use Rattle.session.specs.Operation.{replyNumber, opened, commandOf, commandBuffer, answerRefusal, answerOf, answerBuffer, verdictOf, fieldOf, stampAnswer, stampBuffer}
 use Rattle.session.specs.Reading.{Opening, Arguments, Reading, begins, nextCommand, hasNumber, refusedBy, reading, refusals, fieldIn, fieldFor, answersIn, answers}
@@ -148,7 +148,7 @@ pub record Promise (h : History) : Type 0 where
   -- e: "Two such stamps, from whatever two openings, are equal exactly when their two lists have the same finding."
   pub apart : (u : History) → (stampOf (finding (readingOf h)) ≡ stampOf (finding (readingOf u))) ↔ (finding (readingOf h) ≡ finding (readingOf u))
   -- f: granted, said of the calls
-  pub granted : (standing (finding (readingOf h)) ≡ 1) ↔ Granted (readingOf h)
+  pub granted : (standing (finding (readingOf h)) ≡ standsGranted) ↔ Granted (readingOf h)
   -- g: at most 4,098 answers are taken in a step, and 12,294 in all
   pub answers-step : (step : ℕ) → answersIn step (begins (h .opening)) (argumentsIn h) ≤ answersMost (h .opening .mode) step
   pub answers-all : let most = answersMost (h .opening .mode) in answers (begins (h .opening)) (argumentsIn h) ≤ most 0 + most 1 + most 2
@@ -215,7 +215,7 @@ FieldPromise s object tag given = (h : History) → s ≡ finish h .session → 
 pub record StampPromised (h : History) (before left : List ℕ) (r : Answered) : Type 0 where
   pub number : replyNumber (r .reply) ≡ refusedBy (readingOf h) (Arguments.stamp (length before))
   pub bytes : left ≡ stampFor (readingOf h) before
-  pub granted : replyNumber (r .reply) ≡ 0 → (getD left 1 0 ≡ 1) ↔ Granted (readingOf h)
+  pub granted : replyNumber (r .reply) ≡ 0 → (getD left 1 0 ≡ standsGranted) ↔ Granted (readingOf h)
   pub apart : replyNumber (r .reply) ≡ 0 → (u : History) → (take stampSize left ≡ stampOf (finding (readingOf u))) ↔ (finding (readingOf h) ≡ finding (readingOf u))
   pub extended : ExtendedBy h (Call.stamp before) (r .session) (finish h .object)
 

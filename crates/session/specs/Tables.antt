@@ -141,9 +141,19 @@ causeOf arose o = cond (eqb arose 0) (lowestFrom 1 o) arose
 unfoldable pub allPassed : ℕ → List ℕ → Bool
 allPassed mode o = all checks (λ i. not (needs mode (i + 1)) || eqb (getD o i 0) passed)
 
--- "Standing is rejected if cause is not 0, granted if step is 3 and each needed outcome is 2, else open": 0 open, 1 granted, 2 rejected.
+-- "standing (0 open, 1 granted, 2 rejected)"
+abbrev pub standsOpen : ℕ
+standsOpen = 0
+
+abbrev pub standsGranted : ℕ
+standsGranted = 1
+
+abbrev pub standsRejected : ℕ
+standsRejected = 2
+
+-- "Standing is rejected if cause is not 0, granted if step is 3 and each needed outcome is 2, else open."
 unfoldable pub standingOf : ℕ → ℕ → ℕ → List ℕ → ℕ
-standingOf mode step cause o = cond (not (eqb cause 0)) 2 (cond (eqb step 3 && allPassed mode o) 1 0)
+standingOf mode step cause o = cond (not (eqb cause 0)) standsRejected (cond (eqb step 3 && allPassed mode o) standsGranted standsOpen)
 
 -- ---- steps
 

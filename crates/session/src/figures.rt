@@ -29,7 +29,7 @@ pub(crate) const FULL_CAUSE: u8 = 18;
 
 pub(crate) const FASCN_CAUSE: u8 = 21;
 
-// Standings: 0 open, 1 granted, 2 rejected.
+// Standings: `standsOpen`, `standsGranted`, `standsRejected`.
 pub(crate) const OPEN: u8 = 0;
 
 pub(crate) const GRANTED: u8 = 1;
@@ -49,7 +49,6 @@ pub(crate) const STATUS: usize = 2;
 pub(crate) const ANSWER_MOST: usize = 258;
 
 // The bytes of a number in the stamp, and of the stamp's head, that is mode, standing, cause, status word and step: `numberSize`, `headSize`.
-
 pub(crate) const NUMBER: usize = 4;
 
 pub(crate) const HEAD: usize = 6;
