@@ -79,7 +79,7 @@ pub struct Packed {
 pub struct Key(pub u64);
 
 // The answer for 25 bytes: the tests on their characters in document 01's order, and the digits where all are passed.
-fn judged(odd: bool, placed: bool, check: u8, expected: u8, digits: [u8; DIGITS]) -> Unpacked
+fn answer_for(odd: bool, placed: bool, check: u8, expected: u8, digits: [u8; DIGITS]) -> Unpacked
     ensures { λ r. ⌜ unpacked r ≡ unpackAnswer (refusalOf ((16, not odd) ∷ (17, not placed) ∷ (18, not (eqb check expected)) ∷ [])) digits ⌝ }
 {
     if !odd {
@@ -121,7 +121,7 @@ pub fn unpack(s: &[u8]) -> Unpacked
     let d = order::digits_in(&v);
     let odd = characters::all_odd(&c);
     let placed = order::marks_in(&v) & order::all_decimal(&d);
-    judged(odd, placed, v[CHECK_PLACE], order::check_value(&d), d)
+    answer_for(odd, placed, v[CHECK_PLACE], order::check_value(&d), d)
 }
 
 // The 25 bytes of the FASC-N with the digits d, or that one of them is above 9.

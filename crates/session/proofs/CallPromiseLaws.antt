@@ -18,7 +18,7 @@ use Rattle.session.specs.Condition.{openConditions}
 use Rattle.session.specs.Reading.{Arguments, refusedBy}
 use Rattle.session.specs.Finding.{Finding, finding, standing, stampOf}
 use Rattle.session.specs.Operation.{replyNumber, given, commandGiven, dead, opened, openRefusal, openOf, commandOf, commandBuffer, answerRefusal, answerOf, answerBuffer, verdictOf, fieldOf, stampAnswer, stampBuffer}
-use Rattle.session.specs.Promise.{Call, argumentsOf, Host, callNumber, hostAfter, runCalls, Bytes, LentNow, Lent, goodOpening, History, start, finish, readingOf, stampFor, ExtendedBy, OpenedBy, OpenPromise, CommandPromise, AnswerPromise, VerdictPromise, FieldPromise, StampPromise}
+use Rattle.session.specs.Promise.{Call, argumentsOf, Host, callNumber, hostAfter, runCalls, Bytes, LentNow, Lent, goodOpening, History, startHost, finish, readingOf, stampFor, ExtendedBy, OpenedBy, OpenPromise, CommandPromise, AnswerPromise, VerdictPromise, FieldPromise, StampPromise}
 use Rattle.session.specs.declared.state.Session.{Session}
 use Rattle.session.specs.declared.state.Answered.{Answered}
 use Rattle.session.specs.declared.state.Commanded.{Commanded}
@@ -42,11 +42,11 @@ lent-more (x ∷ cs) h c l k = (l .0, lent-more cs (hostAfter h x) c (l .1) k)
 pub extended : (h : History) (c : Call) (s : Session) (object : List ℕ) → LentNow (finish h) c → hostAfter (finish h) c ≡ record { session = s; object = object } → ExtendedBy h c s object
 extended h c s object l e =
     record {
-      history = record { opening = h .opening; good = h .good; object = h .object; calls = h .calls ++ (c ∷ []); lent = lent-more (h .calls) (start h) c (h .lent) l };
+      history = record { opening = h .opening; good = h .good; object = h .object; calls = h .calls ++ (c ∷ []); lent = lent-more (h .calls) (startHost h) c (h .lent) l };
       opening = refl;
       buffer = refl;
       calls = refl;
-      host = run-more (h .calls) (start h) c ∙ e;
+      host = run-more (h .calls) (startHost h) c ∙ e;
     }
 
 -- the number of a call made next is the reading's

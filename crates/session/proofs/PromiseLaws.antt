@@ -11,7 +11,7 @@ use Rattle.session.specs.Condition.{commandConditions, answerConditions,
 use Rattle.session.specs.Reading.{hasNumber, Arguments, Reading, begins, nextCommand, commandRefused, answerRefused, verdictRefused, refusedBy, read, refusals}
 use Rattle.session.specs.Ranges.{inRange}
 use Rattle.session.specs.Operation.{opened, commandOf, commandBuffer, fieldOf, stampBuffer}
-use Rattle.session.specs.Promise.{Call, Host, callNumber, numbers, History, start, finish, argumentsIn, readingOf, stampFor, countFor, Promise}
+use Rattle.session.specs.Promise.{Call, Host, callNumber, numbers, History, startHost, finish, argumentsIn, readingOf, stampFor, countFor, Promise}
 use Rattle.session.specs.declared.state.Session.{Session}
 use Rattle.session.proofs.ConditionLaws.{not-named}
 use Rattle.session.proofs.Invariant.{session-of, Invariant, HostStandsFor}
@@ -29,7 +29,7 @@ pub reached : (h : History) → HostStandsFor (finish h) (readingOf h)
 unfolding opened
 reached h = on-list (h .calls) (begins (h .opening)) (h .object) (begins-holds (h .opening) (h .object) (h .good)) (h .lent)
 
-all-numbers : (h : History) → numbers (start h) (h .calls) ≡ refusals (begins (h .opening)) (argumentsIn h)
+all-numbers : (h : History) → numbers (startHost h) (h .calls) ≡ refusals (begins (h .opening)) (argumentsIn h)
 unfolding opened
 all-numbers h = numbers-are (h .calls) (begins (h .opening)) (h .object) (begins-holds (h .opening) (h .object) (h .good)) (h .lent)
 

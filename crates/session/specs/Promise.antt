@@ -105,11 +105,11 @@ pub record History : Type 0 where
   pub lent : Lent (host opening object) calls
 
 -- Where it begins and ends, the calls as the reading is fed them, and the reading of it.
-abbrev pub start : History → Host
-start h = host (h .opening) (h .object)
+abbrev pub startHost : History → Host
+startHost h = host (h .opening) (h .object)
 
 abbrev pub finish : History → Host
-finish h = runCalls (start h) (h .calls)
+finish h = runCalls (startHost h) (h .calls)
 
 abbrev pub argumentsIn : History → List Arguments
 argumentsIn h = map argumentsOf (h .calls)
@@ -142,8 +142,8 @@ pub record Promise (h : History) : Type 0 where
   -- where the reading has none, or the buffer lent has another size, the part is empty, whatever is in it
   pub field-empty : (object : List ℕ) (tag : ℕ) → fieldFor (readingOf h) (length object) tag ≡ [] → fieldOf (finish h .session) object tag ≡ []
   -- d: each call of the list that has a number was refused where the reading says so, by that number; refusal 4 fits none
-  pub refused : numbers (start h) (h .calls) ≡ refusals (begins (h .opening)) (argumentsIn h)
-  pub never-four : (i : ℕ) → getD (numbers (start h) (h .calls)) i 0 ≡ 4 → ⊥
+  pub refused : numbers (startHost h) (h .calls) ≡ refusals (begins (h .opening)) (argumentsIn h)
+  pub never-four : (i : ℕ) → getD (numbers (startHost h) (h .calls)) i 0 ≡ 4 → ⊥
   pub in-range : inRange (finish h .session) ≡ true
   -- e: "Two such stamps, from whatever two openings, are equal exactly when their two lists have the same finding."
   pub apart : (u : History) → (stampOf (finding (readingOf h)) ≡ stampOf (finding (readingOf u))) ↔ (finding (readingOf h) ≡ finding (readingOf u))
@@ -202,13 +202,13 @@ VerdictPromise s kind yesNo fascn r = (h : History) → s ≡ finish h .session 
 
 -- Lent the host's buffer, it gives the field's value; a field that the reading has not is the empty part of whatever buffer was lent, and so is every field of a buffer of
 -- another size. The host's buffer stays.
-pub record FieldPromised (h : History) (s : Session) (object : List ℕ) (tag : ℕ) (given : List ℕ) : Type 0 where
-  pub value : object ≡ finish h .object → given ≡ fieldIn (readingOf h) tag
-  pub empty : fieldFor (readingOf h) (length object) tag ≡ [] → given ≡ []
+pub record FieldPromised (h : History) (s : Session) (object : List ℕ) (tag : ℕ) (part : List ℕ) : Type 0 where
+  pub value : object ≡ finish h .object → part ≡ fieldIn (readingOf h) tag
+  pub empty : fieldFor (readingOf h) (length object) tag ≡ [] → part ≡ []
   pub extended : ExtendedBy h (Call.field object tag) s (finish h .object)
 
 abbrev pub FieldPromise : Session → List ℕ → ℕ → List ℕ → Type 0
-FieldPromise s object tag given = (h : History) → s ≡ finish h .session → FieldPromised h s object tag given
+FieldPromise s object tag part = (h : History) → s ≡ finish h .session → FieldPromised h s object tag part
 
 -- Where it is not refused, the second byte says granted exactly where the calls do, and the 45 bytes are the stamp of any other history exactly where the two
 -- findings are the same.

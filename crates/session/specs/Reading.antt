@@ -80,7 +80,7 @@ begins o =
     record { opening = o; progress = atStep 0; outcomes = neededOutcomes (o .mode); found = record { step1 = Option.none; step2 = Option.none; verdicts = [] } }
 
 abbrev pub withProgress : Reading → Progress → Reading
-withProgress r c = record { opening = r .opening; progress = c; outcomes = r .outcomes; found = r .found }
+withProgress r p = record { opening = r .opening; progress = p; outcomes = r .outcomes; found = r .found }
 
 -- ---- a command call: "makes the next command outstanding"
 
@@ -92,8 +92,8 @@ commandRefused r room =
     refusalOf (commandConditions (r .progress .step) (r .progress .cause) (r .progress .outstanding) room (length (nextCommand r)))
 
 abbrev pub sending : Progress → Progress
-sending c =
-    record { step = c .step; cause = c .cause; sw1 = c .sw1; sw2 = c .sw2; joined = c .joined; outstanding = true; next = c .next }
+sending p =
+    record { step = p .step; cause = p .cause; sw1 = p .sw1; sw2 = p .sw2; joined = p .joined; outstanding = true; next = p .next }
 
 -- ---- an answer call: "ends that and follows the rules above"
 
@@ -102,13 +102,13 @@ answerRefused r size n = refusalOf (answerConditions (r .progress .outstanding) 
 
 -- "A cause of 16 to 22 ends the reading at that step for good." The joined data is what the step had, or, where it was judged, what was appended to that too.
 abbrev pub stopped : Progress → List ℕ → ℕ → ℕ → ℕ → Progress
-stopped c joined cause sw1 sw2 =
-    record { step = c .step; cause = cause; sw1 = sw1; sw2 = sw2; joined = joined; outstanding = false; next = c .next }
+stopped p joined cause sw1 sw2 =
+    record { step = p .step; cause = cause; sw1 = sw1; sw2 = sw2; joined = joined; outstanding = false; next = p .next }
 
 -- "After 61 GET RESPONSE is next."
 abbrev pub continued : Progress → List ℕ → ℕ → Progress
-continued c joined second =
-    record { step = c .step; cause = 0; sw1 = 0; sw2 = 0; joined = joined; outstanding = false; next = NextCommand.getResponse second }
+continued p joined second =
+    record { step = p .step; cause = 0; sw1 = 0; sw2 = 0; joined = joined; outstanding = false; next = NextCommand.getResponse second }
 
 -- Step 1's good end sets checks 3 and 4; what was read is kept, with the list.
 abbrev pub step1End : Reading → List ℕ → List ℕ → Reading
@@ -152,7 +152,7 @@ appended Other r joined cancelled = judged r joined cancelled
 
 -- Rules 1 to 3 on the step's joined data.
 abbrev pub causeBy : Progress → ℕ → Status → List ℕ → ℕ
-causeBy c most status bytes = ruleCause status (isResponse (c .next)) (length bytes) (length (c .joined)) most
+causeBy p most status bytes = ruleCause status (isResponse (p .next)) (length bytes) (length (p .joined)) most
 
 -- The effect of an answer, "first rule that fits".
 unfoldable pub answerTaken : Reading → List ℕ → List ℕ → List ℕ → Reading

@@ -49,7 +49,7 @@ pub(crate) const STATUS: usize = 2;
 pub(crate) const ANSWER_MOST: usize = 258;
 
 // The bytes of a number in the stamp, and of the stamp's head, that is mode, standing, cause, status word and step: `numberSize`, `headSize`.
-pub(crate) const NUMBER: usize = 4;
+pub(crate) const NUMBER_BYTES: usize = 4;
 
 pub(crate) const HEAD: usize = 6;
 
@@ -58,8 +58,8 @@ pub(crate) const OUTCOMES_AT: usize = HEAD;
 
 pub(crate) const DATE_AT: usize = OUTCOMES_AT + CHECKS;
 
-pub(crate) const FASCN_AT: usize = DATE_AT + NUMBER;
+pub(crate) const FASCN_AT: usize = DATE_AT + NUMBER_BYTES;
 
 pub(crate) const EXPIRY_AT: usize = FASCN_AT + FASCN_BYTES;
 
-pub const STAMP: usize = EXPIRY_AT + NUMBER;
+pub const STAMP: usize = EXPIRY_AT + NUMBER_BYTES;

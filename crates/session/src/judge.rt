@@ -67,7 +67,7 @@ fn list_outcome(key: Key, cancelled: &[u64]) -> u8
 }
 
 // The value of a field of the object s, whose parts are given.
-fn value<'a>(kind: Kind, parts: [Part; FIELDS], s: &'a [u8], tag: u8) -> &'a [u8]
+fn field_value<'a>(kind: Kind, parts: [Part; FIELDS], s: &'a [u8], tag: u8) -> &'a [u8]
     requires { ⌜ objectOf kind (now s) .1 ≡ parts ⌝ }
     ensures { λ r. ⌜ now r ≡ fieldValue kind tag (now (s .entry)) ⌝ }
 {
@@ -117,13 +117,13 @@ impl Session {
     {
         let opening = self.opening;
         let kind = tables::kind_at(opening.mode, 1);
-        let bytes = value(kind, parts, joined, FASCN_TAG);
+        let bytes = field_value(kind, parts, joined, FASCN_TAG);
         let unpacked = fascn::unpack(bytes);
         let well = unpacked.answer;
         if well.number() != 0 {
             return self.stopped(joined.len(), FASCN_CAUSE, 0, 0);
         }
-        let date = date::read(value(kind, parts, joined, EXPIRY_TAG));
+        let date = date::read(field_value(kind, parts, joined, EXPIRY_TAG));
         if date.number() != 0 {
             return self.stopped(joined.len(), ILL_FORMED_DATE, 0, 0);
         }

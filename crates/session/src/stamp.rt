@@ -3,7 +3,7 @@ use crate::figures::DATE_AT;
 use crate::figures::EXPIRY_AT;
 use crate::figures::FASCN_AT;
 use crate::figures::HEAD;
-use crate::figures::NUMBER;
+use crate::figures::NUMBER_BYTES;
 use crate::figures::OUTCOMES_AT;
 use crate::figures::STAMP;
 use crate::figures::STATUS_CAUSE;
@@ -21,7 +21,7 @@ ghost use Rattle.session.specs.Operation.{replyNumber, given, stampRefus
 ghost use Rattle.session.specs.Promise.{StampPromise};
 
 // A number of four bytes, high byte first.
-fn four_bytes(n: u32) -> [u8; NUMBER]
+fn four_bytes(n: u32) -> [u8; NUMBER_BYTES]
     ensures { λ r. ⌜ r ≡ fourBytes n ⌝ }
 {
     [

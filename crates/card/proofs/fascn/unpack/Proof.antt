@@ -27,7 +27,7 @@ returns-2 c =
     let odd : after-odd .all-odd .result ≡ all 40 (oddAt s) = after-odd .all-odd .ensures ∙ rw (after-chars .characters-in .ensures) (odd-chars s) in
     let values : after-values .values-in .result ≡ valuesIn s = after-values .values-in .ensures ∙ rw (after-chars .characters-in .ensures) (values-chars s) in
     rw (
-      c .judged .ensures,
+      c .answer-for .ensures,
       odd,
       after-marks .marks-in .ensures,
       after-decimal .all-decimal .ensures,

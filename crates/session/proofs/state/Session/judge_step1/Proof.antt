@@ -15,8 +15,8 @@ use Rattle.session.proofs.state.Session.judge_step1.Statement.{statemen
 use Rattle.session.proofs.state.Session.judge_step1.Tie as tie
 
 -- each value is that of the definition
-bytes-is : (c : tie.After-value) → let a = c .before .before .before .before .before .args in now (c .value .result) ≡ fascnRead (a .self .opening .mode) (a .joined .now)
-bytes-is c = rw (← c .before .kind-at .ensures) (c .value .ensures)
+bytes-is : (c : tie.After-field-value) → let a = c .before .before .before .before .before .args in now (c .field-value .result) ≡ fascnRead (a .self .opening .mode) (a .joined .now)
+bytes-is c = rw (← c .before .kind-at .ensures) (c .field-value .ensures)
 
 unpacked-is : (c : tie.After-unpack) → let a = c .before .before .before .before .before .before .args in unpacked (c .unpack .result) ≡ unpackOf (fascnRead (a .self .opening .mode) (a .joined .now))
 unpacked-is c = c .unpack .ensures ∙ ap unpackOf (bytes-is (c .before))
@@ -25,7 +25,7 @@ number-is : (c : tie.After-number) → let a = c .before .before .before .before
 number-is c = c .number .ensures ∙ ap (λ (p : ℕ × List ℕ). p .0) (unpacked-is (c .before))
 
 date-is : (c : tie.After-read) → let a = c .before .before .before .before .before .before .before .before .before .before .args in dateAnswer (c .read .result) ≡ dateOf (fieldValue (kindAt (a .self .opening .mode) 1) expiryTag (a .joined .now))
-date-is c = rw (← c .before .before .before .before .before .before .kind-at .ensures, ← c .before .value2 .ensures) (c .read .ensures)
+date-is c = rw (← c .before .before .before .before .before .before .kind-at .ensures, ← c .before .field-value2 .ensures) (c .read .ensures)
 
 date-number-is : (c : tie.After-number2) → let a = c .before .before .before .before .before .before .before .before .before .before .before .args in c .number2 .result ≡ dateOf (fieldValue (kindAt (a .self .opening .mode) 1) expiryTag (a .joined .now)) .0
 date-number-is c = c .number2 .ensures ∙ ap (λ (p : ℕ × ℕ). p .0) (date-is (c .before))
@@ -36,14 +36,14 @@ expiry-is c = c .date-number .ensures ∙ ap (λ (p : ℕ × ℕ). p .1) (date-i
 key-is : (c : tie.After-key-of) → let a = c .before .before .before .before .before .before .before .before .before .before .before .before .before .before .before .args in c .key-of .result .0 ≡ keyRead (a .self .opening .mode) (a .joined .now)
 key-is c = c .key-of .ensures ∙ ap (λ (p : ℕ × List ℕ). keyOf (p .1)) (unpacked-is (c .before .before .before .before .before .before .before .before .before))
 
-value-requires : tie.Need-value-requires
-value-requires c κs = rw (c .kind-at .ensures, c .before .before .before .before .pre .1)
+field-value-requires : tie.Need-field-value-requires
+field-value-requires c κs = rw (c .kind-at .ensures, c .before .before .before .before .pre .1)
 
 returns : tie.Need-returns
 returns c = c .stopped .ensures ∙ sym (step1-fascn _ _ _ (c .before .before .before .before .before .before .before .before .before .pre .0) (c .before .before .before .before .before .before .before .before .before .pre .1) (number-is (c .before .before)) (c .before .if1 .taken))
 
-value-requires-2 : tie.Need-value-requires-2
-value-requires-2 c κs = rw (c .before .before .before .before .kind-at .ensures, c .before .before .before .before .before .before .before .before .pre .1)
+field-value-requires-2 : tie.Need-field-value-requires-2
+field-value-requires-2 c κs = rw (c .before .before .before .before .kind-at .ensures, c .before .before .before .before .before .before .before .before .pre .1)
 
 returns-2 : tie.Need-returns-2
 returns-2 c =
@@ -51,7 +51,7 @@ returns-2 c =
 
 array-fascn-requires : tie.Need-array-fascn-requires
 array-fascn-requires c κs =
-    let e : unpackOf (now (c .before .before .before .before .before .before .before .before .before .before .before .before .value .result)) .0 ≡ 0 = rw (← c .before .before .before .before .before .before .before .before .before .before .before .unpack .ensures) (sym (c .before .before .before .before .before .before .before .before .before .before .number .ensures) ∙ c .before .before .before .before .before .before .before .before .before .if1 .left) in
+    let e : unpackOf (now (c .before .before .before .before .before .before .before .before .before .before .before .before .field-value .result)) .0 ≡ 0 = rw (← c .before .before .before .before .before .before .before .before .before .before .before .unpack .ensures) (sym (c .before .before .before .before .before .before .before .before .before .before .number .ensures) ∙ c .before .before .before .before .before .before .before .before .before .if1 .left) in
     well-formed _ e .long
 
 returns-3 : tie.Need-returns-3
@@ -68,6 +68,6 @@ pub judge-step1-spec : {M : Type 1} → statement M
 judge-step1-spec =
     tie.close
     (tie.spec
-    (λ c κs. search needs) value-requires (λ c κs. search needs) (λ c κs. search needs) (λ c κs. search needs) returns value-requires-2
+    (λ c κs. search needs) field-value-requires (λ c κs. search needs) (λ c κs. search needs) (λ c κs. search needs) returns field-value-requires-2
     (λ c κs. search needs) (λ c κs. search needs) (λ c κs. search needs) returns-2 (λ c κs. search needs) (λ c κs. search needs)
     (λ c κs. search needs) array-fascn-requires (λ c κs. search needs) (λ c κs. search needs) returns-3)

@@ -1,4 +1,4 @@
--- `session::judge::value` meets its contract: the part lies inside. Assumes nothing.
+-- `session::judge::field_value` meets its contract: the part lies inside. Assumes nothing.
 use mathlib.Core.Path.{_≡_}
 use Prim.Native.Nat.{_+_, _-_}
 use native.Mathlib.Omega.{arith}
@@ -6,8 +6,8 @@ use borrow.Author.Needs.{needs}
 use lib.ListN.{length}
 use Rattle.card.specs.Object.{fieldPart, fieldValue, bytesAt}
 use Rattle.card.proofs.ObjectLaws.{Inside, part-inside}
-use Rattle.session.proofs.judge.value.Statement.{statement}
-use Rattle.session.proofs.judge.value.Tie as tie
+use Rattle.session.proofs.judge.field_value.Statement.{statement}
+use Rattle.session.proofs.judge.field_value.Tie as tie
 
 part-is : (c : tie.After-part-of) → c .part-of .result ≡ fieldPart (c .before .before .args .kind) (c .before .before .args .tag) (c .before .before .args .s .now)
 part-is c = rw (c .before .before .pre) (c .part-of .ensures)
@@ -28,5 +28,5 @@ returns c =
     let e : p .start + p .len - p .start ≡ p .len = omega arith in
     rw (e, part-is (c .before .before .before))
 
-pub value-spec : {M : Type 1} → statement M
-value-spec = tie.close (tie.spec (λ c κs. search needs) (λ c. search needs) (λ c. search needs) add-end (λ c. search needs) (λ c. search needs) part-result-end returns)
+pub field-value-spec : {M : Type 1} → statement M
+field-value-spec = tie.close (tie.spec (λ c κs. search needs) (λ c. search needs) (λ c. search needs) add-end (λ c. search needs) (λ c. search needs) part-result-end returns)

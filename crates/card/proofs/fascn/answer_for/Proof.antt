@@ -1,9 +1,9 @@
--- `card::fascn::judged` meets its contract: each return is where the tests before it are passed. Assumes nothing.
+-- `card::fascn::answer_for` meets its contract: each return is where the tests before it are passed. Assumes nothing.
 use mathlib.Core.Path.{_≡_}
 use mathlib.Core.Bool.{true, false}
 use borrow.Author.Tests.{eq-eqb, ne-eqb, not-true, not-false}
-use Rattle.card.proofs.fascn.judged.Statement.{statement}
-use Rattle.card.proofs.fascn.judged.Tie as tie
+use Rattle.card.proofs.fascn.answer_for.Statement.{statement}
+use Rattle.card.proofs.fascn.answer_for.Tie as tie
 
 returns : tie.Need-returns
 returns c = rw (c .if1 .taken)
@@ -26,5 +26,5 @@ returns-4 c =
     let placed : c .before .before .before .args .placed ≡ true = not-false _ (c .before .if2 .left) in
     rw (odd, placed, eq-eqb _ _ (c .if3 .left))
 
-pub judged-spec : {M : Type 1} → statement M
-judged-spec = tie.close (tie.spec returns returns-2 returns-3 returns-4)
+pub answer-for-spec : {M : Type 1} → statement M
+answer-for-spec = tie.close (tie.spec returns returns-2 returns-3 returns-4)
