@@ -9,11 +9,11 @@ use native.Mathlib.Omega.{arith}
 use borrow.Author.Tests.{eqb-true, eq-eqb}
 use lib.Dec.{ltb, lit<}
 use lib.ListN.{length, getD}
-use Rattle.card.specs.Lists.{listOf, all, number, written}
+use Rattle.common.specs.Lists.{listOf, all, number, written}
 use Rattle.card.specs.Fascn.{bitAt, valueAt, oddAt, valuesIn, charBit, sentBit, bytesOf, valuesOf}
 use Rattle.card.specs.Characters.{bitOf, regrouped, oddChar, valueChar, charOf, charsIn, charsOf, bytesOfChars}
-use Rattle.card.proofs.NumberLaws.{number-ext, number-lt, number-group, number-digit, number-mod, pow-mul}
-use Rattle.card.proofs.ListsLaws.{all-at, all-ext, all-of, getD-listOf, listOf-ext, listOf-is, written-ext, written-on}
+use Rattle.common.proofs.NumberLaws.{number-ext, number-lt, number-group, number-digit, number-mod, pow-mul}
+use Rattle.common.proofs.ListsLaws.{all-at, all-ext, all-of, getD-listOf, listOf-ext, listOf-is, written-ext, written-on}
 
 bit-lt : (m : ℕ) (s : List ℕ) (p : ℕ) → bitOf m s p < 2
 unfolding bitOf

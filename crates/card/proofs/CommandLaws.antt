@@ -8,8 +8,8 @@ use native.Mathlib.Omega.{arith}
 use borrow.Author.Tests.{leb-true, not-false, lt-ltb, le-ltb, ne-eqb}
 use lib.Dec.{leb}
 use lib.ListN.{length, length-append}
-use Rattle.card.specs.Lists.{overFront}
-use Rattle.card.specs.Refusal.{refusalOf}
+use Rattle.common.specs.Lists.{overFront}
+use Rattle.common.specs.Refusal.{refusalOf}
 use Rattle.card.specs.Object.{objectTag}
 use Rattle.card.specs.Command.{selectBeside, selectBytes, getDataBytes, getResponseBytes, commandWritten, aidLeast, aidMost, aidRefused, tooShort, selectOf, getDataOf, getResponseOf}
 use Rattle.card.specs.declared.object.Kind.{Kind}

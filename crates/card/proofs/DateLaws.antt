@@ -10,7 +10,7 @@ use native.Mathlib.Omega.{arith}
 use borrow.Author.Tests.{eq-eqb, ne-eqb, leb-true, ltb-true, ltb-false}
 use lib.Dec.{eqb, leb, ltb, lit<}
 use lib.ListN.{length, getD}
-use Rattle.card.specs.Lists.{all, number}
+use Rattle.common.specs.Lists.{all, number}
 use Rattle.card.specs.Date.{leapYear, daysIn, realDate, isDigitAt, spelled, goodDate, dateOf, daysToYear, daysToMonth, dayOf}
 
 -- ---- what the loop of `read` keeps

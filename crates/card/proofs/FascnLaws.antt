@@ -9,12 +9,12 @@ use borrow.Author.Tests.{eqb-true, leb-true, eq-eqb}
 use lib.Dec.{eqb}
 use lib.ListN.{length, getD}
 use lib.Seq.{ext-getD}
-use Rattle.card.specs.Lists.{all, sameBytes}
-use Rattle.card.specs.Refusal.{refusalOf}
+use Rattle.common.specs.Lists.{all, sameBytes}
+use Rattle.common.specs.Refusal.{refusalOf}
 use Rattle.card.specs.Fascn.{valueAt, oddAt, valuesIn, bytesOf, digitsIn, marksIn, decimalAt, checkValue, valuesOf, unpackRefusal, unpackAnswer, unpackOf, packRefusal, packOf, keyOf}
 use Rattle.card.specs.Characters.{checkDigits}
-use Rattle.card.proofs.ListsLaws.{all-at, all-of, length-listOf}
-use Rattle.card.proofs.NumberLaws.{number-lt}
+use Rattle.common.proofs.ListsLaws.{all-at, all-of, length-listOf}
+use Rattle.common.proofs.NumberLaws.{number-lt}
 use Rattle.card.proofs.CharacterLaws.{values-bytes, odd-bytes, bytes-values}
 use Rattle.card.proofs.OrderLaws.{marks-values, digits-values, value-check, values-mod, check-digits, values-digits}
 

@@ -1,10 +1,4 @@
 -- The laws of this crate's definitions, from the general to the particular. A crate above cites FascnLaws, TlvLaws, TemplateLaws, ObjectLaws, DateLaws and CommandLaws.
--- ListsLaws: lists and tests by index, and what a loop adds to them
-pub mod ListsLaws
--- NumberLaws: numbers and their digits to a base
-pub mod NumberLaws
--- XorLaws: the exclusive or
-pub mod XorLaws
 -- CharacterLaws: bytes, characters and values
 pub mod CharacterLaws
 -- OrderLaws: values, digits and marks

@@ -12,11 +12,11 @@ use lib.Bits.{bitXor, xor-zero-r, xor-lt}
 use lib.Dec.{eqb, lit<, lit≤}
 use lib.ListN.{length, getD, take, length-append, drop-of-length-le, List·getD-append}
 use lib.Seq.{getD-append-add, getD-take, length-take-le, take-take, split-at}
-use Rattle.card.specs.Lists.{listOf, sliceOf, all, xorOf}
+use Rattle.common.specs.Lists.{listOf, sliceOf, all, xorOf}
 use Rattle.card.specs.Fascn.{Piece, mark, field, order, valuesFrom, digitsFrom, marksFrom, digitsIn, marksIn, decimalAt, checkValue, valuesOf}
 use Rattle.card.specs.Characters.{charOf, charsOf, marksMapped, inOrder, marksOf, checkDigits}
-use Rattle.card.proofs.ListsLaws.{all-at, length-listOf, listOf-is, listOf-ext, listOf-append}
-use Rattle.card.proofs.XorLaws.{xor-assoc, xor-left-comm, xorOf-append, xorOf-lt}
+use Rattle.common.proofs.ListsLaws.{all-at, length-listOf, listOf-is, listOf-ext, listOf-append}
+use Rattle.common.proofs.XorLaws.{xor-assoc, xor-left-comm, xorOf-append, xorOf-lt}
 
 -- ---- runs
 

@@ -7,7 +7,7 @@ use Prim.Native.Nat.{ℕ, suc, _+_, _-_, _*_, _/_, _%_, _^_, _≤_, _<_}
 use lib.Bits.{bitXor}
 use lib.Dec.{eqb}
 use lib.ListN.{getD}
-use Rattle.card.specs.Lists.{listOf, number, xorOf}
+use Rattle.common.specs.Lists.{listOf, number, xorOf}
 use Rattle.card.specs.Fascn.{fascnBytes, fascnCharacters, fascnDigits, charBit, Piece, startValue, separatorValue, mark, field, order, valuesFrom, valuesOf}
 
 -- What number_in asks: the n numbers from place at on lie within len, and n digits to the base fit 64 bits.

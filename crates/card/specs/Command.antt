@@ -5,8 +5,8 @@ use mathlib.Core.List.{List, [], _∷_, _++_}
 use Prim.Native.Nat.{ℕ, _+_}
 use lib.Dec.{eqb, ltb, leb}
 use lib.ListN.{length, getD, take}
-use Rattle.card.specs.Lists.{overFront, sameBytes}
-use Rattle.card.specs.Refusal.{refusalOf}
+use Rattle.common.specs.Lists.{overFront, sameBytes}
+use Rattle.common.specs.Refusal.{refusalOf}
 use Rattle.card.specs.Object.{objectTag}
 use Rattle.card.specs.declared.object.Kind.{Kind}
 use Rattle.card.specs.declared.command.CommandAnswer.{CommandAnswer}

@@ -5,7 +5,7 @@ use mathlib.Core.List.{List}
 use Prim.Native.Nat.{ℕ, zero, suc, _+_, _/_, _%_}
 use lib.Dec.{eqb, leb}
 use lib.ListN.{length, getD}
-use Rattle.card.specs.Lists.{all, number}
+use Rattle.common.specs.Lists.{all, number}
 use Rattle.card.specs.declared.date.Date.{Date}
 use Rattle.card.specs.declared.date.Date.the-variants.{Real, Unreal}
 

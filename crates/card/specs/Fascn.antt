@@ -5,8 +5,8 @@ use mathlib.Core.List.{List, [], _∷_, _++_}
 use Prim.Native.Nat.{ℕ, suc, _+_, _-_, _*_, _/_, _%_, _^_}
 use lib.Dec.{eqb, ltb, leb}
 use lib.ListN.{length, getD, take, replicate}
-use Rattle.card.specs.Lists.{listOf, sliceOf, all, number, xorOf}
-use Rattle.card.specs.Refusal.{refusalOf}
+use Rattle.common.specs.Lists.{listOf, sliceOf, all, number, xorOf}
+use Rattle.common.specs.Refusal.{refusalOf}
 use Rattle.card.specs.declared.fascn.UnpackAnswer.{UnpackAnswer}
 use Rattle.card.specs.declared.fascn.UnpackAnswer.the-variants as unpack-answers
 use Rattle.card.specs.declared.fascn.PackAnswer.{PackAnswer}

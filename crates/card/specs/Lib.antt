@@ -1,8 +1,4 @@
 -- What the contracts of this crate mean.
--- Lists: lists, tests and numbers by index
-pub mod Lists
--- Refusal: the first condition of a list that fits
-pub mod Refusal
 -- Fascn: the FASC-N
 pub mod Fascn
 -- Tlv: the header of a TLV, and an encoder

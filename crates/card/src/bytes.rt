@@ -1,8 +1,8 @@
-// What the modules of this crate do with a slice: one byte of it, a part of it, whether two are equal, and a copy into one.
+// What the modules of this crate do with a slice: one byte of it, a part of it, and a copy into one.
 ghost use mathlib.Core.Path.{_≡_};
 ghost use Prim.Native.Nat.{_+_, _≤_};
 ghost use lib.ListN.{length, getD, take, drop};
-ghost use Rattle.card.specs.Lists.{written, sameBytes};
+ghost use Rattle.common.specs.Lists.{written};
 
 // Byte i, 0 past the end.
 pub(crate) fn byte(s: &[u8], i: usize) -> u8
@@ -26,20 +26,6 @@ pub(crate) fn part(s: &[u8], start: usize, len: usize) -> &[u8]
 {
     let end = start + len;
     &s[start..end]
-}
-
-// All bytes are equal, and there are as many. Every byte is looked at: there is no early exit.
-pub fn same(a: &[u8], b: &[u8]) -> bool
-    ensures { λ r. ⌜ r ≡ sameBytes (now (a .entry)) (now (b .entry)) ⌝ }
-{
-    if a.len() != b.len() {
-        return false;
-    }
-    let mut same = true;
-    for i in 0..a.len() {
-        same = same & (a[i] == b[i]);
-    }
-    same
 }
 
 // The n bytes of src from place from on, stored in dst from place at on.

@@ -1,10 +1,7 @@
 // Commands and status words (document 01, section Commands): SELECT, GET DATA and GET RESPONSE written to the front of a lent buffer.
-use crate::bytes;
 use crate::object::Kind;
+use common::slice;
 ghost use mathlib.Core.Path.{_≡_};
-ghost use Prim.Native.Nat.{_+_, _≤_};
-ghost use lib.ListN.{length};
-ghost use Rattle.card.specs.Lists.{overPlaces};
 ghost use Rattle.card.specs.Object.{objectTag};
 ghost use Rattle.card.specs.Command.{goodAid, commandNumber, commandAnswer, selectOf, getDataOf, getResponseOf, statusOf};
 
@@ -35,14 +32,6 @@ impl CommandAnswer {
     }
 }
 
-// The bytes s, stored in out from place at on.
-fn put(out: &mut [u8], at: usize, s: &[u8])
-    requires { ⌜ at + length (now s) ≤ length (now out) ⌝ }
-    ensures { λ r. ⌜ now (out .exit) ≡ overPlaces (now (out .entry)) at (now (s .entry)) ⌝ }
-{
-    bytes::copy_run(out, at, s, 0, s.len());
-}
-
 // Whether an AID may have n bytes.
 pub fn good_aid(n: usize) -> bool
     ensures { λ r. ⌜ r ≡ goodAid n ⌝ }
@@ -63,10 +52,10 @@ pub fn select(aid: &[u8], out: &mut [u8]) -> CommandAnswer
         return CommandAnswer::ShortBuffer;
     }
     let count = [n as u8];
-    put(out, 0, b"\x00\xA4\x04\x00");
-    put(out, 4, &count);
-    put(out, 5, aid);
-    put(out, 5 + n, b"\x00");
+    slice::store(out, 0, b"\x00\xA4\x04\x00");
+    slice::store(out, 4, &count);
+    slice::store(out, 5, aid);
+    slice::store(out, 5 + n, b"\x00");
     CommandAnswer::Written(total)
 }
 
@@ -99,9 +88,9 @@ pub fn get_data(kind: Kind, out: &mut [u8]) -> CommandAnswer
         return CommandAnswer::ShortBuffer;
     }
     let tag = object_tag(kind);
-    put(out, 0, b"\x00\xCB\x3F\xFF\x05\x5C\x03");
-    put(out, 7, &tag);
-    put(out, 10, b"\x00");
+    slice::store(out, 0, b"\x00\xCB\x3F\xFF\x05\x5C\x03");
+    slice::store(out, 7, &tag);
+    slice::store(out, 10, b"\x00");
     CommandAnswer::Written(GET_DATA_BYTES)
 }
 
@@ -113,8 +102,8 @@ pub fn get_response(second: u8, out: &mut [u8]) -> CommandAnswer
         return CommandAnswer::ShortBuffer;
     }
     let last = [second];
-    put(out, 0, b"\x00\xC0\x00\x00");
-    put(out, 4, &last);
+    slice::store(out, 0, b"\x00\xC0\x00\x00");
+    slice::store(out, 4, &last);
     CommandAnswer::Written(GET_RESPONSE_BYTES)
 }
 
@@ -132,10 +121,10 @@ pub fn status_of(s: &[u8]) -> Status
     if s.len() != 2 {
         return Status::Other;
     }
-    if bytes::same(s, b"\x90\x00") {
+    if slice::same(s, b"\x90\x00") {
         return Status::Done;
     }
-    if bytes::same(&s[..1], b"\x61") {
+    if slice::same(&s[..1], b"\x61") {
         Status::More(s[1])
     } else {
         Status::Other

@@ -3,17 +3,17 @@ mod characters;
 pub mod counts;
 mod order;
 
-use crate::bytes;
 use crate::fascn::counts::CHECK_PLACE;
 use crate::fascn::counts::DIGITS;
 use crate::fascn::counts::FASCN_BYTES;
 use crate::fascn::counts::KEY_DIGITS;
+use common::slice;
 ghost use mathlib.Core.Path.{_≡_};
 ghost use mathlib.Core.Bool.{not};
 ghost use mathlib.Core.List.{[], _∷_};
 ghost use lib.Dec.{eqb};
-ghost use Rattle.card.specs.Lists.{sameBytes};
-ghost use Rattle.card.specs.Refusal.{refusalOf};
+ghost use Rattle.common.specs.Lists.{sameBytes};
+ghost use Rattle.common.specs.Refusal.{refusalOf};
 ghost use Rattle.card.specs.Fascn.{unpackNumber, packNumber, unpacked, packed, unpackAnswer, unpackOf, packOf, keyOf};
 
 // What unpack answers: the digits, or the first fault of document 01's list. `unpackNumber` gives the number of each.
@@ -156,5 +156,5 @@ pub fn key_of(d: [u8; DIGITS]) -> Key
 pub fn equal(a: &[u8], b: &[u8]) -> bool
     ensures { λ r. ⌜ r ≡ sameBytes (now (a .entry)) (now (b .entry)) ⌝ }
 {
-    bytes::same(a, b)
+    slice::same(a, b)
 }

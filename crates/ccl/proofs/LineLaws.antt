@@ -12,10 +12,10 @@ use borrow.Author.Tests.{eqb-true, eqb-false, ltb-true, leb-true, le-leb, eq-eqb
 use lib.Dec.{eqb, leb, ltb, lit<}
 use lib.ListN.{length, getD, take, length-append, List·getD-append}
 use lib.Seq.{getD-at, take-at}
-use Rattle.card.specs.Lists.{listOf, sliceOf, all}
+use Rattle.common.specs.Lists.{listOf, sliceOf, all}
 use Rattle.card.specs.Fascn.{decimalAt, keyOf}
-use Rattle.card.proofs.ListsLaws.{all-at, all-ext, getD-listOf, listOf-is, listOf-ext}
-use Rattle.card.proofs.NumberLaws.{number-ext, number-lt, number-digit, number-mod}
+use Rattle.common.proofs.ListsLaws.{all-at, all-ext, getD-listOf, listOf-is, listOf-ext}
+use Rattle.common.proofs.NumberLaws.{number-ext, number-lt, number-digit, number-mod}
 use Rattle.text.specs.Form.{between, betweenAt}
 use Rattle.text.proofs.FormLaws.{between-at, between-mark}
 use Rattle.ccl.specs.Line.{keyLimit, digitOf, cardOpens, space, between-groups, closes, cardText, lineOf, goodLine, goodCard, lineDigits, keySpelled, lineKey}

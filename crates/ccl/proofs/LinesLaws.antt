@@ -7,8 +7,8 @@ use native.Mathlib.Numerals.{add-one}
 use native.Mathlib.Omega.{arith}
 use lib.ListN.{length, getD, take, drop, length-append, length-drop}
 use lib.Seq.{take-suc, length-take-le}
-use Rattle.card.specs.Lists.{overFront, overPlaces}
-use Rattle.card.proofs.ListsLaws.{over-next}
+use Rattle.common.specs.Lists.{overFront, overPlaces}
+use Rattle.common.proofs.ListsLaws.{over-next}
 use Rattle.ccl.specs.Line.{lineOf}
 use Rattle.ccl.specs.ListText.{lineAt, linesOf}
 use Rattle.ccl.proofs.LineLaws.{length-line}

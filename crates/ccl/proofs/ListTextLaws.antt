@@ -13,8 +13,8 @@ use borrow.Author.Tests.{eqb-true, ltb-true, ltb-false, lt-ltb, le-ltb, eq-eqb, 
 use lib.Dec.{eqb, ltb, lit<}
 use lib.ListN.{length, getD, take, drop, List·getD-eq-default, length-take, length-drop}
 use lib.Seq.{take-at, drop-append-add, take-add, take-length, getD-take, getD-drop}
-use Rattle.card.specs.Lists.{listOf, overFront, written}
-use Rattle.card.proofs.ListsLaws.{all-at, all-of, listOf-is, length-listOf, getD-listOf}
+use Rattle.common.specs.Lists.{listOf, overFront, written}
+use Rattle.common.proofs.ListsLaws.{all-at, all-of, listOf-is, length-listOf, getD-listOf}
 use Rattle.ccl.specs.Line.{keyLimit, digitOf, cardText, lineOf, goodLine, lineKey}
 use Rattle.ccl.specs.ListText.{lineAt, goodLines, wellFormed, keyAt, readRefusal, readOf, keysAfter, smallKeys, writeRefusal, writeOf, linesOf, textAfter}
 use Rattle.ccl.proofs.PassingLaws.{passing-is, passing-all}

@@ -4,7 +4,7 @@ use mathlib.Core.Bool.{Bool, cond}
 use mathlib.Core.List.{List, [], _∷_, _++_}
 use Prim.Native.Nat.{ℕ, _+_, _-_, _/_, _%_, _^_}
 use lib.ListN.{getD}
-use Rattle.card.specs.Lists.{listOf, sliceOf, number}
+use Rattle.common.specs.Lists.{listOf, sliceOf, number}
 use Rattle.card.specs.Fascn.{keyLength}
 use Rattle.text.specs.Form.{between}
 use Rattle.ccl.specs.declared.line.CardKey.{CardKey}

@@ -6,8 +6,8 @@ use mathlib.Core.List.{List, [], _∷_, _++_}
 use Prim.Native.Nat.{ℕ, zero, suc, _+_, _*_, _/_}
 use lib.Dec.{eqb, ltb}
 use lib.ListN.{length, getD, take, drop}
-use Rattle.card.specs.Lists.{all, overFront, written}
-use Rattle.card.specs.Refusal.{refusalOf}
+use Rattle.common.specs.Lists.{all, overFront, written}
+use Rattle.common.specs.Refusal.{refusalOf}
 use Rattle.ccl.specs.Line.{keyLimit, goodLine, lineKey, lineOf}
 use Rattle.ccl.specs.declared.list.ListRead.{ListRead}
 use Rattle.ccl.specs.declared.list.ListRead.the-variants as list-read

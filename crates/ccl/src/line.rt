@@ -2,7 +2,7 @@
 ghost use mathlib.Core.Path.{_≡_};
 ghost use Prim.Native.Nat.{_<_};
 ghost use lib.ListN.{length};
-ghost use Rattle.card.specs.Lists.{listOf};
+ghost use Rattle.common.specs.Lists.{listOf};
 ghost use Rattle.card.specs.Fascn.{keyLength};
 ghost use Rattle.ccl.specs.Line.{digitOf, lineOf, lineDigits, keySpelled, lineKey, cardAnswer, cardOf};
 use card::fascn::counts::KEY_DIGITS;

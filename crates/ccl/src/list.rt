@@ -2,7 +2,7 @@
 ghost use mathlib.Core.Path.{_≡_};
 ghost use Prim.Native.Nat.{_+_, _*_, _/_, _≤_};
 ghost use lib.ListN.{length};
-ghost use Rattle.card.specs.Lists.{overFront, written, overPlaces};
+ghost use Rattle.common.specs.Lists.{overFront, written, overPlaces};
 ghost use Rattle.text.specs.Form.{between};
 ghost use Rattle.ccl.specs.ListText.{lineSize, goodLines, keyAt, readAnswer, readOf, keysAfter, smallKeys, linesOf, writeAnswer, writeOf, textAfter};
 use crate::line;

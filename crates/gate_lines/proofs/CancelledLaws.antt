@@ -7,7 +7,7 @@ use mathlib.Core.List.{List}
 use Prim.Native.Nat.{ℕ, _+_, _*_, _≤_, _<_}
 use native.Mathlib.Omega.{arith}
 use lib.ListN.{length}
-use Rattle.card.proofs.ListsLaws.{length-listOf, getD-listOf}
+use Rattle.common.proofs.ListsLaws.{length-listOf, getD-listOf}
 use Rattle.ccl.specs.Line.{keyLimit, lineOf}
 use Rattle.ccl.specs.ListText.{wellFormed, goodLines, keyAt, lineAt}
 use Rattle.ccl.proofs.ListTextLaws.{keysOf, found}

@@ -6,8 +6,8 @@ use native.Mathlib.Omega.{arith}
 use native.Mathlib.Nat.{add-zero, min-eq-left}
 use borrow.Author.Tests.{eq-eqb, ne-eqb, lt-ltb, le-ltb}
 use lib.ListN.{length, getD, take, drop, drop-of-length-le}
-use Rattle.card.proofs.ListsLaws.{written-none}
-use Rattle.text.specs.Place.{countBefore}
+use Rattle.common.proofs.ListsLaws.{written-none}
+use Rattle.bytes.specs.Bytes.{indexAfter, indexOf}
 use Rattle.gate_lines.specs.Line.{lineIn}
 use Rattle.gate_lines.specs.Gate.{Gate, gateAfter, replyTo, cardsAfter, replyText}
 use Rattle.gate_lines.specs.Input.{InputState, mostHeld, inputAfter, textOfInput, lastGate, lastText, partFrom, heldAfter, lineAfter, placesAfter}
@@ -21,7 +21,7 @@ unfolding partFrom inputAfter textOfInput
 none-fed m block from = let z : from - from ≡ 0 = omega arith in (rw z, rw z)
 
 -- the block ends first: its bytes are held
-pub run-fed : (g : Gate) (line left : List ℕ) (held n : ℕ) (block : List ℕ) (from end : ℕ) → length line ≡ mostHeld → end ≡ from + countBefore 0x0A (drop from block) → end ≤ length block
+pub run-fed : (g : Gate) (line left : List ℕ) (held n : ℕ) (block : List ℕ) (from end : ℕ) → length line ≡ mostHeld → end ≡ from + indexOf 0x0A (drop from block) → end ≤ length block
     → n ≡ heldAfter held (end - from) → left ≡ lineAfter line held block from (end - from)
     → (record { gate = g; held = take n left } ≡ inputAfter (record { gate = g; held = take held line }) (partFrom block from end))
     × (_≡_ {A = List ℕ} [] (textOfInput (record { gate = g; held = take held line }) (partFrom block from end)))
@@ -31,7 +31,7 @@ run-fed g line left held n block from end l e h p q =
 
 -- a 0A ends the line: it is carried out
 pub line-fed : (g u : Gate) (line left : List ℕ) (held n : ℕ) (block : List ℕ) (from end : ℕ) (reply : LineReply) (text : List ℕ) → length line ≡ mostHeld
-    → end ≡ from + countBefore 0x0A (drop from block) → end < length block → n ≡ heldAfter held (end - from) → left ≡ lineAfter line held block from (end - from)
+    → end ≡ from + indexOf 0x0A (drop from block) → end < length block → n ≡ heldAfter held (end - from) → left ≡ lineAfter line held block from (end - from)
     → u ≡ gateAfter g (lineIn (take n left)) → reply ≡ replyTo g (lineIn (take n left)) → text ≡ replyText reply
     → (record { gate = u; held = [] } ≡ inputAfter (record { gate = g; held = take held line }) (partFrom block from (end + 1)))
     × (text ≡ textOfInput (record { gate = g; held = take held line }) (partFrom block from (end + 1)))
@@ -55,7 +55,7 @@ line-last m h = (rw (ne-eqb (length (m .held)) 0 h), rw (ne-eqb (length (m .held
 
 -- nothing is left of the block
 pub none-places : (st : State) (held : ℕ) (cards line block : List ℕ) (from : ℕ) → length block ≤ from → (from, held, line, (st .cards, cards)) ≡ placesAfter st held cards line block from
-unfolding placesAfter countBefore heldAfter lineAfter
+unfolding placesAfter indexOf indexAfter heldAfter lineAfter
 none-places st held cards line block from h =
     let n : drop from block ≡ [] = drop-of-length-le block h in
     let z : from + 0 - from ≡ 0 = omega arith in
@@ -63,13 +63,13 @@ none-places st held cards line block from h =
     rw (n, z, le-ltb (from + 0) (length block) (omega arith), k, written-none line held (λ j. getD block (from + j) 0), add-zero from, add-zero held)
 
 -- the block ends first
-pub run-places : (st : State) (held n : ℕ) (cards line left block : List ℕ) (from end : ℕ) → end ≡ from + countBefore 0x0A (drop from block) → length block ≤ end
+pub run-places : (st : State) (held n : ℕ) (cards line left block : List ℕ) (from end : ℕ) → end ≡ from + indexOf 0x0A (drop from block) → length block ≤ end
     → n ≡ heldAfter held (end - from) → left ≡ lineAfter line held block from (end - from) → (end, n, left, (st .cards, cards)) ≡ placesAfter st held cards line block from
 unfolding placesAfter
 run-places st held n cards line left block from end e h p q = rw (p, q, ← e, le-ltb end (length block) h)
 
 -- a 0A ends the line
-pub line-places : (st : State) (held n : ℕ) (cards line left block : List ℕ) (from end : ℕ) (gateAfter : ℕ × List ℕ) → end ≡ from + countBefore 0x0A (drop from block) → end < length block
+pub line-places : (st : State) (held n : ℕ) (cards line left block : List ℕ) (from end : ℕ) (gateAfter : ℕ × List ℕ) → end ≡ from + indexOf 0x0A (drop from block) → end < length block
     → n ≡ heldAfter held (end - from) → left ≡ lineAfter line held block from (end - from) → gateAfter ≡ cardsAfter st cards (lineIn (take n left))
     → (end + 1, 0, left, gateAfter) ≡ placesAfter st held cards line block from
 unfolding placesAfter

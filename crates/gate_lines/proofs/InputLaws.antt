@@ -9,15 +9,15 @@ use borrow.Author.Tests.{ltb-true, ltb-false, ne-eqb}
 use lib.Dec.{eqb, ltb}
 use lib.ListN.{length, getD, take, drop, length-append, length-take, length-drop}
 use lib.Seq.{take-all, take-nil, take-at, take-append-add, length-take-le, getD-take, getD-drop}
-use Rattle.card.specs.Lists.{listOf, written}
-use Rattle.card.proofs.ListsLaws.{length-listOf, listOf-is, written-none, length-written}
-use Rattle.text.specs.Place.{countBefore}
+use Rattle.common.specs.Lists.{listOf, written}
+use Rattle.common.proofs.ListsLaws.{length-listOf, listOf-is, written-none, length-written}
+use Rattle.bytes.specs.Bytes.{indexOf}
 use Rattle.gate_lines.proofs.LineLaws.{line-held}
 use Rattle.gate_lines.specs.Line.{longest, lineIn}
 use Rattle.gate_lines.specs.Gate.{Gate, gateAfter, replyTo, replyText, endText}
 use Rattle.gate_lines.specs.Run.{runLines, printed, output}
 use Rattle.gate_lines.specs.Input.{Cut, cutByte, cut, lastLine, linesIn, mostHeld, InputState, inputStart, inputAfterByte, textOfByte, inputAfter, textOfInput, lastGate, lastText, partFrom, heldAfter, lineAfter}
-use Rattle.text.proofs.PlaceLaws.{NoEnd, none-before, with-end}
+use Rattle.common.proofs.PlaceLaws.{NoEnd, none-before, with-end}
 
 -- ---- one block after another
 
@@ -137,18 +137,18 @@ abbrev pub heldTo : List ℕ → ℕ → List ℕ → ℕ → ℕ → List ℕ
 heldTo line held block from end = take (heldAfter held (end - from)) (lineAfter line held block from (end - from))
 
 -- the bytes before `end`, and how many
-ends-at : (block : List ℕ) (from end : ℕ) → end ≡ from + countBefore 0x0A (drop from block) → end - from ≡ countBefore 0x0A (drop from block)
+ends-at : (block : List ℕ) (from end : ℕ) → end ≡ from + indexOf 0x0A (drop from block) → end - from ≡ indexOf 0x0A (drop from block)
 ends-at block from end e = omega (arith, e)
 
-held-to : (line : List ℕ) (held : ℕ) (block : List ℕ) (from end : ℕ) → length line ≡ mostHeld → end ≡ from + countBefore 0x0A (drop from block) → end ≤ length block
-    → take mostHeld (take held line ++ take (countBefore 0x0A (drop from block)) (drop from block)) ≡ heldTo line held block from end
-held-to line held block from end l e h = rw (ends-at block from end e) (sym (held-after line held block from (countBefore 0x0A (drop from block)) l (omega (arith, e))))
+held-to : (line : List ℕ) (held : ℕ) (block : List ℕ) (from end : ℕ) → length line ≡ mostHeld → end ≡ from + indexOf 0x0A (drop from block) → end ≤ length block
+    → take mostHeld (take held line ++ take (indexOf 0x0A (drop from block)) (drop from block)) ≡ heldTo line held block from end
+held-to line held block from end l e h = rw (ends-at block from end e) (sym (held-after line held block from (indexOf 0x0A (drop from block)) l (omega (arith, e))))
 
 line-within : (line : List ℕ) (held : ℕ) → length line ≡ mostHeld → length (take held line) ≤ mostHeld
 line-within line held l = omega (arith, length-take held line)
 
 -- where the block ends first, the bytes are held
-pub part-run : (g : Gate) (line : List ℕ) (held : ℕ) (block : List ℕ) (from end : ℕ) → length line ≡ mostHeld → end ≡ from + countBefore 0x0A (drop from block)
+pub part-run : (g : Gate) (line : List ℕ) (held : ℕ) (block : List ℕ) (from end : ℕ) → length line ≡ mostHeld → end ≡ from + indexOf 0x0A (drop from block)
     → end ≤ length block
     → (inputAfter (record { gate = g; held = take held line }) (partFrom block from end)
     ≡ record { gate = g; held = heldTo line held block from end })
@@ -157,14 +157,14 @@ unfolding partFrom
 part-run g line held block from end l e h =
     let m : InputState = record { gate = g; held = take held line } in
     let s = drop from block in
-    let part : take (end - from) s ≡ take (countBefore 0x0A s) s = ap (λ (n : ℕ). take n s) (ends-at block from end e) in (
-      ap (inputAfter m) part ∙ feed-run (take (countBefore 0x0A s) s) m (none-before s) (line-within line held l)
+    let part : take (end - from) s ≡ take (indexOf 0x0A s) s = ap (λ (n : ℕ). take n s) (ends-at block from end e) in (
+      ap (inputAfter m) part ∙ feed-run (take (indexOf 0x0A s) s) m (none-before s) (line-within line held l)
           ∙ ap (λ (x : List ℕ). record { gate = g; held = x }) (held-to line held block from end l e h),
-      ap (textOfInput m) part ∙ run-text (take (countBefore 0x0A s) s) m (none-before s),
+      ap (textOfInput m) part ∙ run-text (take (indexOf 0x0A s) s) m (none-before s),
     )
 
 -- where a 0A ends the line, the line is done
-pub part-line : (g : Gate) (line : List ℕ) (held : ℕ) (block : List ℕ) (from end : ℕ) → length line ≡ mostHeld → end ≡ from + countBefore 0x0A (drop from block)
+pub part-line : (g : Gate) (line : List ℕ) (held : ℕ) (block : List ℕ) (from end : ℕ) → length line ≡ mostHeld → end ≡ from + indexOf 0x0A (drop from block)
     → end < length block
     → (inputAfter (record { gate = g; held = take held line }) (partFrom block from (end + 1))
     ≡ record { gate = gateAfter g (lineIn (heldTo line held block from end)); held = [] })
@@ -174,13 +174,13 @@ unfolding partFrom
 part-line g line held block from end l e h =
     let m : InputState = record { gate = g; held = take held line } in
     let s = drop from block in
-    let all : end + 1 - from ≡ countBefore 0x0A s + 1 = omega (arith, e) in
-    let part : take (end + 1 - from) s ≡ take (countBefore 0x0A s) s ++ (0x0A ∷ []) =
+    let all : end + 1 - from ≡ indexOf 0x0A s + 1 = omega (arith, e) in
+    let part : take (end + 1 - from) s ≡ take (indexOf 0x0A s) s ++ (0x0A ∷ []) =
     ap (λ (n : ℕ). take n s) all ∙ with-end s (omega (arith, e, length-drop from block)) in
     let to = held-to line held block from end l e (omega arith) in (
-      ap (inputAfter m) part ∙ feed-line (take (countBefore 0x0A s) s) m (none-before s) (line-within line held l)
+      ap (inputAfter m) part ∙ feed-line (take (indexOf 0x0A s) s) m (none-before s) (line-within line held l)
           ∙ ap (λ (x : List ℕ). record { gate = gateAfter g (lineIn x); held = [] }) to,
-      ap (textOfInput m) part ∙ line-text (take (countBefore 0x0A s) s) m (none-before s) (line-within line held l) ∙ ap (λ (x : List ℕ). replyText (replyTo g (lineIn x))) to,
+      ap (textOfInput m) part ∙ line-text (take (indexOf 0x0A s) s) m (none-before s) (line-within line held l) ∙ ap (λ (x : List ℕ). replyText (replyTo g (lineIn x))) to,
     )
 
 -- ---- one list of lines after another

@@ -11,7 +11,7 @@ use borrow.Author.Tests.{ltb-true, ltb-false}
 use lib.Dec.{ltb}
 use lib.ListN.{length, take, set, replicate}
 use lib.Seq.{take-all, take-length, length-take-le, take-suc-set}
-use Rattle.card.specs.Lists.{written}
+use Rattle.common.specs.Lists.{written}
 use Rattle.text.specs.Hex.{byteAt, bytesIn}
 use Rattle.text.proofs.HexLaws.{front-bytes}
 use Rattle.session.specs.Operation.{given}

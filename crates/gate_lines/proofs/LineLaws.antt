@@ -9,7 +9,7 @@ use borrow.Author.Tests.{leb-true, ltb-true, ltb-false, eqb-true}
 use lib.Dec.{eqb, leb, ltb}
 use lib.ListN.{length, getD, take, drop, take-append-drop}
 use lib.Seq.{length-take-le, take-all, drop-cons, drop-drop, drop-length}
-use Rattle.session.proofs.TestLaws.{and-parts}
+use Rattle.common.proofs.TestLaws.{and-parts}
 use Rattle.text.specs.Hex.{isHex}
 use Rattle.text.specs.Form.{between}
 use Rattle.gate_lines.specs.Line.{GateLine, longest, hexFrom, headed, lineIn}

@@ -10,10 +10,10 @@ use borrow.Author.Tests.{eqb-true, ltb-true, le-leb, le-ltb}
 use lib.Dec.{eqb, leb, ltb, lit<}
 use lib.ListN.{length, getD, take, drop, length-drop, length-append, List·getD-append}
 use lib.Seq.{length-take-le, getD-take, getD-append-add, take-append-seam, drop-append-seam, getD-at}
-use Rattle.card.specs.Lists.{listOf, sliceOf, all}
-use Rattle.card.proofs.ListsLaws.{all-at, length-listOf, getD-listOf, listOf-is, listOf-ext}
-use Rattle.card.proofs.NumberLaws.{number-ext, number-lt, number-digit, number-mod}
-use Rattle.session.proofs.TestLaws.{and-parts}
+use Rattle.common.specs.Lists.{listOf, sliceOf, all}
+use Rattle.common.proofs.ListsLaws.{all-at, length-listOf, getD-listOf, listOf-is, listOf-ext}
+use Rattle.common.proofs.NumberLaws.{number-ext, number-lt, number-digit, number-mod}
+use Rattle.common.proofs.TestLaws.{and-parts}
 use Rattle.text.specs.Hex.{bytesIn, hexOf}
 use Rattle.text.specs.Form.{between, decimal, betweenAt}
 use Rattle.text.proofs.HexLaws.{hex-bytes, bytes-small, length-bytes, length-hex, hex-is-hex, bytes-hex}

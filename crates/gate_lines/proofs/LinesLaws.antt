@@ -4,7 +4,7 @@ use mathlib.Core.Bool.{false}
 use mathlib.Core.List.{List, [], _∷_, _++_, append-assoc, append-nil}
 use Prim.Native.Nat.{ℕ}
 use lib.Dec.{eqb}
-use Rattle.text.proofs.PlaceLaws.{NoEnd}
+use Rattle.common.proofs.PlaceLaws.{NoEnd}
 use Rattle.gate_lines.specs.Input.{Cut, cutByte, cut, lastLine, linesIn}
 
 -- An input with these lines, a 0A after each.

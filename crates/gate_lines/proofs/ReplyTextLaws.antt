@@ -7,9 +7,9 @@ use native.Mathlib.Nat.{le-of-eq}
 use native.Mathlib.Omega.{arith}
 use lib.ListN.{length, take, length-append}
 use lib.Seq.{take-at, length-take-le}
-use Rattle.card.specs.Lists.{overPlaces, written}
+use Rattle.common.specs.Lists.{overPlaces, written}
 use Rattle.session.specs.Tables.{stampSize}
-use Rattle.session.proofs.StoreLaws.{front-all}
+use Rattle.common.proofs.StoreLaws.{front-all}
 use Rattle.text.specs.Hex.{hexDigitAt, hexOf}
 use Rattle.text.proofs.HexLaws.{length-hex, front-hex}
 use Rattle.gate_lines.specs.Gate.{textIn, textSize, TextFits}

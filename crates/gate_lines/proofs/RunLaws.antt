@@ -19,10 +19,10 @@ use Rattle.session.specs.declared.state.Session.{Session}
 use Rattle.session.proofs.CallPromiseLaws.{extended, opening-begins}
 use Rattle.session.proofs.RefusedLaws.{command-unchanged, answer-unchanged, verdict-unchanged, command-dead, answer-dead, verdict-dead, stamp-dead}
 use Rattle.session.proofs.StampLaws.{stamp-length}
-use Rattle.session.proofs.StoreLaws.{front-all}
+use Rattle.common.proofs.StoreLaws.{front-all}
 use Rattle.session.proofs.PromiseLaws.{reached, promise}
 use Rattle.session.proofs.RunLaws.{zero-or}
-use Rattle.session.proofs.TestLaws.{by-test, either}
+use Rattle.common.proofs.TestLaws.{by-test, either}
 use Rattle.text.specs.Hex.{bytesIn}
 use Rattle.text.specs.Form.{decimal}
 use Rattle.text.proofs.HexLaws.{bytes-small}

@@ -5,8 +5,8 @@ use mathlib.Core.List.{List, [], _∷_, _++_}
 use Prim.Native.Nat.{ℕ, _+_, _-_, min}
 use lib.Dec.{eqb, ltb}
 use lib.ListN.{length, getD, take, drop}
-use Rattle.card.specs.Lists.{written}
-use Rattle.text.specs.Place.{countBefore}
+use Rattle.common.specs.Lists.{written}
+use Rattle.bytes.specs.Bytes.{indexOf}
 use Rattle.gate_lines.specs.Line.{longest, lineIn}
 use Rattle.gate_lines.specs.Gate.{Gate, gateOf, gateAfter, replyTo, cardsAfter, replyText}
 use Rattle.gate_lines.specs.declared.state.State.{State}
@@ -90,7 +90,7 @@ lineAfter line held block from n = written line held (min n (mostHeld - held)) (
 -- cards with their count. A 0A ends the line, which is carried out, and nothing is held.
 unfoldable pub placesAfter : State → ℕ → List ℕ → List ℕ → List ℕ → ℕ → ℕ × ℕ × List ℕ × (ℕ × List ℕ)
 placesAfter st held cards line block from =
-    let end = from + countBefore 0x0A (drop from block) in
+    let end = from + indexOf 0x0A (drop from block) in
     let n = heldAfter held (end - from) in
     let then = lineAfter line held block from (end - from) in
     cond (ltb end (length block)) (end + 1, 0, then, cardsAfter st cards (lineIn (take n then))) (end, n, then, (st .cards, cards))

@@ -4,7 +4,7 @@
 use mathlib.Core.List.{List, [], _∷_, _++_}
 use Prim.Native.Nat.{ℕ, suc, _-_, _/_, _^_, _≤_, _<_}
 use lib.ListN.{length}
-use Rattle.card.specs.Lists.{listOf}
+use Rattle.common.specs.Lists.{listOf}
 use Rattle.text.specs.Hex.{hexOf}
 use Rattle.ccl.specs.Line.{keyLimit, space, cardText}
 use Rattle.session.specs.Promise.{Bytes}

@@ -5,7 +5,7 @@ use crate::state::CARDS;
 use crate::state::LineRun;
 use crate::state::State;
 use crate::state::Text;
-use text::bytes;
+use common::slice;
 ghost use mathlib.Core.Path.{_≡_};
 ghost use Prim.Native.Nat.{_+_, _-_, _≤_, _<_};
 ghost use lib.ListN.{length, take};
@@ -98,7 +98,7 @@ impl State {
                 text,
             };
         }
-        let end = bytes::find(block, from, b'\n');
+        let end = slice::find(block, from, b'\n');
         let n = hold(line, held, block, from, end);
         if end < block.len() {
             let used = end + 1;

@@ -3,9 +3,9 @@ use crate::state::LineReply;
 use crate::state::STAMP_DIGITS;
 use crate::state::TEXT;
 use crate::state::Text;
+use common::slice;
 use session::figures::STAMP;
 use session::state::Session;
-use text::bytes;
 use text::hex;
 ghost use mathlib.Core.Path.{_≡_};
 ghost use mathlib.Core.List.{[], _++_};
@@ -34,7 +34,7 @@ impl Text {
     {
         let mut bytes = self.bytes;
         let len = self.len;
-        bytes::store(&mut bytes, len, s);
+        slice::store(&mut bytes, len, s);
         Text {
             bytes,
             len: len + s.len(),

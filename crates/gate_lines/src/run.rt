@@ -10,13 +10,14 @@ use crate::state::LineReply;
 use crate::state::LineRun;
 use crate::state::State;
 use card::command::COMMAND_MOST;
+use common::number;
 use session::open;
 use session::state::Answered;
 use text::hex;
 ghost use mathlib.Core.Path.{_≡_};
 ghost use mathlib.Core.Bool.{cond};
 ghost use mathlib.Core.List.{[]};
-ghost use Prim.Native.Nat.{_≤_, min};
+ghost use Prim.Native.Nat.{_≤_};
 ghost use lib.Dec.{eqb};
 ghost use lib.ListN.{length};
 ghost use Rattle.text.specs.Hex.{bytesIn};
@@ -118,7 +119,7 @@ impl State {
         let session = self.session;
         let sent = session.command(&mut out);
         let ready = sent.session;
-        let count = within(self.cards, cards.len());
+        let count = number::least(self.cards, cards.len());
         let answered = ready.answer(object, &bytes[..n], &cards[..count]);
         answered_by(answered, self.cards)
     }
@@ -154,12 +155,4 @@ impl State {
             },
         }
     }
-}
-
-// n, or `most` where that is less.
-fn within(n: usize, most: usize) -> usize
-    ensures is { λ r. ⌜ r ≡ min n most ⌝ }
-    ensures inside { λ r. ⌜ r ≤ most ⌝ }
-{
-    if n < most { n } else { most }
 }

@@ -8,12 +8,12 @@ use borrow.Author.Tests.{ltb-false, le-leb, lt-leb}
 use lib.Dec.{ltb}
 use lib.ListN.{length, take, drop}
 use lib.Seq.{take-add, take-at}
-use Rattle.card.specs.Lists.{overPlaces}
+use Rattle.common.specs.Lists.{overPlaces}
 use Rattle.session.specs.Operation.{dead}
 use Rattle.session.specs.declared.state.Session.{Session}
-use Rattle.session.proofs.TestLaws.{clash}
-use Rattle.text.specs.Place.{overPlacesWhere}
-use Rattle.text.proofs.PlaceLaws.{store-fits}
+use Rattle.common.proofs.TestLaws.{clash}
+use Rattle.common.specs.Lists.{overPlacesWhere}
+use Rattle.common.proofs.StoreLaws.{store-fits}
 use Rattle.gate_lines.specs.Gate.{textSize, Gate, fresh}
 use Rattle.gate_lines.specs.Run.{runLines, EndPromise}
 use Rattle.gate_lines.specs.Input.{InputState, inputStateOf, inputAfter, partFrom, linesIn, inputStart, lastGate}

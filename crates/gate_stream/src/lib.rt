@@ -2,6 +2,7 @@
 //
 // No contract can say what is read or written. What these contracts say is of the program's state: whatever was read, it is the state that the definitions give
 // for those bytes.
+use common::slice;
 use gate_lines::input::HELD;
 use gate_lines::reply;
 use gate_lines::run;
@@ -10,7 +11,6 @@ use gate_lines::state::State;
 use gate_lines::state::TEXT;
 use gate_lines::state::Text;
 use session::figures::OBJECT;
-use text::bytes;
 ghost use mathlib.Core.Path.{_≡_};
 ghost use mathlib.Core.Bool.{true};
 ghost use Prim.Native.Nat.{_+_, _≤_, _<_};
@@ -47,14 +47,14 @@ fn gather(out: &mut [u8], gathered: usize, text: Text) -> Gathered
     let bytes = text.bytes;
     let len = text.len;
     if gathered <= out.len() - TEXT {
-        bytes::store(out, gathered, &bytes[..len]);
+        slice::store(out, gathered, &bytes[..len]);
         return Gathered {
             count: gathered + len,
             taken: true,
         };
     }
     let taken = io::write_all(1, &out[..gathered]);
-    bytes::store(out, 0, &bytes[..len]);
+    slice::store(out, 0, &bytes[..len]);
     Gathered { count: len, taken }
 }
 

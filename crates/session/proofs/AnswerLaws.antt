@@ -8,8 +8,8 @@ use native.Mathlib.Omega.{arith}
 use borrow.Author.Tests.{eqb-true, not-false, leb-true}
 use lib.Dec.{eqb, leb}
 use lib.ListN.{length, getD, take, drop, length-append}
-use Rattle.card.proofs.ListsLaws.{length-over}
-use Rattle.card.specs.Lists.{overPlaces}
+use Rattle.common.proofs.ListsLaws.{length-over}
+use Rattle.common.specs.Lists.{overPlaces}
 use Rattle.card.specs.Command.{statusOf}
 use Rattle.card.specs.declared.command.Status.{Status}
 use Rattle.card.specs.declared.command.Status.the-variants.{Done, More, Other}
@@ -19,8 +19,8 @@ use Rattle.session.specs.Reading.{Found, Reading, withProgress, answerRe
 use Rattle.session.specs.Ranges.{causeInRange}
 use Rattle.session.specs.Operation.{withSessionProgress, progressStopped, progressContinued, joinedIn, judgedSession, appendedSession, answerTakenSession, answerTakenBuffer, answerRefusal}
 use Rattle.session.specs.Promise.{Bytes}
-use Rattle.session.proofs.TestLaws.{clash, and-left, and-right, by-test}
-use Rattle.session.proofs.ConditionLaws.{none-fit}
+use Rattle.common.proofs.TestLaws.{clash, and-left, and-right, by-test}
+use Rattle.common.proofs.ConditionLaws.{none-fit}
 use Rattle.session.proofs.RuleLaws.{rule-in-range, rule-fits, joined-in-range}
 use Rattle.session.proofs.BytesLaws.{append-bytes}
 use Rattle.session.proofs.Invariant.{next-same, session-of, progress-of, Held, GoodOne, OneHeld, TwoHeld, Stage, Invariant, StandsFor}

@@ -7,13 +7,13 @@ use Prim.Native.Nat.{ℕ, _+_, _<_}
 use native.Mathlib.Omega.{arith}
 use lib.Dec.{leb}
 use lib.ListN.{length, getD}
-use Rattle.card.proofs.ListsLaws.{all-of, length-listOf, getD-listOf}
+use Rattle.common.proofs.ListsLaws.{all-of, length-listOf, getD-listOf}
 use Rattle.session.specs.Tables.{checks, goodKind, needs, checkServed, outcomeOf, neededAt, neededOutcomes}
 use Rattle.session.specs.Ranges.{outcomesInRange}
 use Rattle.session.specs.Reading.{Opening, begins}
 use Rattle.session.specs.Finding.{verdictOn}
 use Rattle.session.specs.Promise.{goodOpening}
-use Rattle.session.proofs.TestLaws.{either}
+use Rattle.common.proofs.TestLaws.{either}
 use Rattle.session.proofs.Invariant.{Stage, VerdictGave, Invariant}
 use Rattle.session.proofs.OutcomeLaws.{place-of, placed}
 

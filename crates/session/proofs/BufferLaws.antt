@@ -6,8 +6,8 @@ use Prim.Native.Nat.{ℕ, _+_, _≤_}
 use native.Mathlib.Omega.{arith}
 use lib.ListN.{length, take, drop}
 use lib.Seq.{take-append-seam, take-append-add, take-add, take-append-le, drop-at, length-take-le, take-take}
-use Rattle.card.proofs.ListsLaws.{length-over}
-use Rattle.card.specs.Lists.{overPlaces}
+use Rattle.common.proofs.ListsLaws.{length-over}
+use Rattle.common.specs.Lists.{overPlaces}
 
 -- data that is stored after what is held
 module _ (m j xs : List ℕ) (base : ℕ) (fits : base + length j + length xs ≤ length m) (held : take (length j) (drop base m) ≡ j) where

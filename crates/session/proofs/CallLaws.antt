@@ -9,7 +9,7 @@ use borrow.Author.Tests.{eq-eqb, ne-eqb, eqb-true, not-false, ltb-false, leb-tru
 use lib.Dec.{eqb, leb}
 use lib.ListN.{length, take, drop}
 use lib.Seq.{drop-drop}
-use Rattle.card.specs.Lists.{overFront}
+use Rattle.common.specs.Lists.{overFront}
 use Rattle.card.specs.Object.{bytesAt}
 use Rattle.card.specs.declared.object.Part.{Part}
 use Rattle.card.specs.Command.{aidMost}
@@ -19,8 +19,8 @@ use Rattle.session.specs.Condition.{openConditions, answerConditions, fi
 use Rattle.session.specs.Ranges.{inRange, outOfRange}
 use Rattle.session.specs.Operation.{openRefusal, answerRefusal, answerTakenSession, answerTakenBuffer, answerOf, answerBuffer, stampIn, stampRefusal, stampBuffer, partFor, fieldOf}
 use Rattle.session.specs.declared.state.Session.{Session}
-use Rattle.session.proofs.TestLaws.{and-left, and-right, or-left, or-right}
-use Rattle.session.proofs.ConditionLaws.{none-fit}
+use Rattle.common.proofs.TestLaws.{and-left, and-right, or-left, or-right}
+use Rattle.common.proofs.ConditionLaws.{none-fit}
 use Rattle.session.proofs.RefusedLaws.{answer-unchanged, stamp-unchanged}
 
 -- ---- any call

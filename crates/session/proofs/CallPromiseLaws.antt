@@ -10,9 +10,9 @@ use borrow.Author.Tests.{eqb-true, eqb-false, eq-eqb, not-false}
 use lib.Dec.{eqb, ltb}
 use lib.ListN.{length, getD, take, drop}
 use lib.Seq.{take-at}
-use Rattle.card.specs.Lists.{overFront}
+use Rattle.common.specs.Lists.{overFront}
 use Rattle.card.specs.Date.{realDate}
-use Rattle.card.proofs.ListsLaws.{front-at}
+use Rattle.common.proofs.ListsLaws.{front-at}
 use Rattle.session.specs.Tables.{modeOpens, stampSize}
 use Rattle.session.specs.Condition.{openConditions}
 use Rattle.session.specs.Reading.{Arguments, refusedBy}
@@ -22,9 +22,9 @@ use Rattle.session.specs.Promise.{Call, argumentsOf, Host, callNumber, h
 use Rattle.session.specs.declared.state.Session.{Session}
 use Rattle.session.specs.declared.state.Answered.{Answered}
 use Rattle.session.specs.declared.state.Commanded.{Commanded}
-use Rattle.session.proofs.TestLaws.{and-both}
+use Rattle.common.proofs.TestLaws.{and-both}
 use Rattle.session.proofs.FigureLaws.{opens-in-range, stamp-long}
-use Rattle.session.proofs.ConditionLaws.{none-fit}
+use Rattle.common.proofs.ConditionLaws.{none-fit}
 use Rattle.session.proofs.StampLaws.{stamp-length, stamp-second}
 use Rattle.session.proofs.RunLaws.{zero-or, number-is}
 use Rattle.session.proofs.PromiseLaws.{reached, promise}

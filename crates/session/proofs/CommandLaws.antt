@@ -10,14 +10,14 @@ use lib.Dec.{eqb, leb}
 use lib.ListN.{length, take, drop, replicate}
 use lib.Seq.{take-append-seam}
 use Rattle.card.specs.Command.{aidMost}
-use Rattle.card.specs.Lists.{overFront}
+use Rattle.common.specs.Lists.{overFront}
 use Rattle.session.specs.Tables.{ends}
 use Rattle.session.specs.Condition.{nothingToSend, commandConditions}
 use Rattle.session.specs.Reading.{Progress, Reading, withProgress, nextCommand, commandRefused, sending}
 use Rattle.session.specs.Ranges.{stepInRange, causeInRange}
 use Rattle.session.specs.Operation.{commandIn, commandRefusal, commandOf, commandBuffer}
-use Rattle.session.proofs.TestLaws.{and-left, and-both, or-left, or-right}
-use Rattle.session.proofs.ConditionLaws.{none-fit}
+use Rattle.common.proofs.TestLaws.{and-left, and-both, or-left, or-right}
+use Rattle.common.proofs.ConditionLaws.{none-fit}
 use Rattle.session.proofs.Invariant.{next-same, session-of, GoodProgress, Invariant}
 use Rattle.session.proofs.InRangeLaws.{in-range}
 

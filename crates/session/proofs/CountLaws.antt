@@ -16,8 +16,8 @@ use Rattle.session.specs.Tables.{statusCause, emptyCause, fullCause, end
 use Rattle.session.specs.Ranges.{causeInRange}
 use Rattle.session.specs.Condition.{commandConditions, answerConditions}
 use Rattle.session.specs.Reading.{Opening, Arguments, Progress, Reading, begins, atStep, nextCommand, commandRefused, sending, answerRefused, stopped, continued, step1End, step2End, goodEnd, judged, appended, causeBy, answerTaken, verdictRefused, verdictTaken, refusedBy, read, takes, answersIn, answers}
-use Rattle.session.proofs.TestLaws.{clash, or-left, or-right, either}
-use Rattle.session.proofs.ConditionLaws.{none-fit}
+use Rattle.common.proofs.TestLaws.{clash, or-left, or-right, either}
+use Rattle.common.proofs.ConditionLaws.{none-fit}
 use Rattle.session.proofs.RuleLaws.{rule-in-range, rule-fits, joined-in-range}
 
 -- a cause that did arise ends the reading

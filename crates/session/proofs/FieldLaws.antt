@@ -18,7 +18,7 @@ use Rattle.session.specs.Tables.{hasStep2, kindAt, baseOf, objectSize, i
 use Rattle.session.specs.Reading.{StepOne, Found, Reading, joinedOne, joinedTwo, joinedAt, fieldIn, fieldFor}
 use Rattle.session.specs.Operation.{noParts, partFor, fieldOf}
 use Rattle.session.proofs.Invariant.{parts-one, parts-two, session-of, Held, OneHeld, TwoHeld, Stage, Invariant}
-use Rattle.session.proofs.TestLaws.{clash}
+use Rattle.common.proofs.TestLaws.{clash}
 use Rattle.session.proofs.InRangeLaws.{none-parts, in-range}
 
 -- ---- a field that is not read

@@ -6,7 +6,7 @@ use Prim.Native.Nat.{ℕ, _+_, _≤_, _<_}
 use native.Mathlib.Omega.{arith}
 use lib.Dec.{eqb}
 use Rattle.session.specs.Tables.{modeInRange, modeOpens, objectSize, baseOf, capacity, answersMost, stampSize}
-use Rattle.session.proofs.TestLaws.{either}
+use Rattle.common.proofs.TestLaws.{either}
 
 -- what a step may hold fits the object buffer
 pub base-fits : (mode step : ℕ) → baseOf step + capacity mode step ≤ objectSize

@@ -20,8 +20,8 @@ use Rattle.session.specs.Ranges.{stepInRange}
 use Rattle.session.specs.Promise.{Host, Bytes}
 use Rattle.session.specs.Operation.{goodEndSession, step2EndSession}
 use Rattle.session.specs.declared.state.Session.{Session}
-use Rattle.session.proofs.TestLaws.{clash, by-test, either}
-use Rattle.session.proofs.ConditionLaws.{none-fit}
+use Rattle.common.proofs.TestLaws.{clash, by-test, either}
+use Rattle.common.proofs.ConditionLaws.{none-fit}
 use Rattle.session.proofs.OutcomeLaws.{place-of, placed, set-in-range, expiry-small, list-small}
 use Rattle.session.proofs.Invariant.{session-of, Held, GoodOne, OneHeld, TwoHeld, Stage, VerdictGave, Judged, GoodProgress, Invariant, StandsFor}
 

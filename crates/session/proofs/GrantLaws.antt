@@ -10,13 +10,13 @@ use native.Mathlib.Omega.{arith}
 use borrow.Author.Tests.{eqb-true, eqb-false, leb-true, le-leb}
 use lib.Dec.{eqb, leb}
 use lib.ListN.{length, getD}
-use Rattle.card.specs.Lists.{sameBytes}
-use Rattle.card.proofs.ListsLaws.{all-at}
+use Rattle.common.specs.Lists.{sameBytes}
+use Rattle.common.proofs.ListsLaws.{all-at}
 use Rattle.card.proofs.FascnLaws.{same-bytes, same-refl}
 use Rattle.session.specs.Tables.{checks, goodKind, needs, isIn, checkServed, outcomeOf, passed, unneeded, failed, otherCard, verdictOutcome, expiryOutcome, listed, listOutcome, lowestFrom, causeOf, allPassed, standingOf, fascnRead, keyRead, expiryRead}
 use Rattle.session.specs.Reading.{Opening, StepOne, Verdict, Found, Reading, ownFascn}
 use Rattle.session.specs.Finding.{verdictOn, finding, standing, Granted}
-use Rattle.session.proofs.TestLaws.{clash, and-left, and-right, either}
+use Rattle.common.proofs.TestLaws.{clash, and-left, and-right, either}
 use Rattle.session.proofs.OutcomeLaws.{place-of, placed}
 use Rattle.session.proofs.Invariant.{Stage, VerdictGave, ExpiryJudged, ListJudged, Judged, Invariant}
 

@@ -16,7 +16,7 @@ use Rattle.card.specs.Command.{aidRefused}
 use Rattle.card.specs.declared.object.Part.{Part}
 use Rattle.card.specs.declared.object.Kind.{Kind}
 use Rattle.card.specs.declared.object.Kind.the-variants.{Signed}
-use Rattle.card.proofs.ListsLaws.{all-of}
+use Rattle.common.proofs.ListsLaws.{all-of}
 use Rattle.card.proofs.TlvLaws.{header-empty}
 use Rattle.card.proofs.ObjectLaws.{AllInside, parts-inside}
 use Rattle.card.proofs.DateLaws.{date-real}
@@ -25,7 +25,7 @@ use Rattle.session.specs.Reading.{Opening, StepOne, Reading}
 use Rattle.session.specs.Ranges.{openingInRange, partInside, partsInside, cardInRange, rangedValues, valuesInRange, inRange}
 use Rattle.session.specs.Operation.{noParts}
 use Rattle.session.specs.Promise.{goodOpening}
-use Rattle.session.proofs.TestLaws.{and-left, and-right, and-both}
+use Rattle.common.proofs.TestLaws.{and-left, and-right, and-both}
 use Rattle.session.proofs.FigureLaws.{base-fits}
 use Rattle.session.proofs.Invariant.{expiry-of, parts-one, parts-two, session-of, OneHeld, TwoHeld, Invariant}
 

@@ -7,7 +7,7 @@ use mathlib.Core.List.{List, []}
 use Prim.Native.Nat.{ℕ, _≤_, _<_}
 use lib.ListN.{length, take, drop, replicate}
 use Rattle.card.specs.Command.{aidMost}
-use Rattle.card.specs.Lists.{overFront}
+use Rattle.common.specs.Lists.{overFront}
 use Rattle.card.specs.Fascn.{unpackOf}
 use Rattle.card.specs.Object.{expiryTag, objectOf, fieldValue}
 use Rattle.card.specs.Date.{dateOf}

@@ -1,10 +1,6 @@
 -- The laws of this crate's definitions, from the general to the particular. A crate above cites PromiseLaws, and the clauses of the contracts.
--- TestLaws: tests
-pub mod TestLaws
 -- FigureLaws: document 01's figures
 pub mod FigureLaws
--- ConditionLaws: lists of conditions with their numbers
-pub mod ConditionLaws
 -- BytesLaws: lists of bytes
 pub mod BytesLaws
 -- BufferLaws: the object buffer
@@ -17,8 +13,6 @@ pub mod ListedLaws
 pub mod OutcomeLaws
 -- TablesLaws: the tables that the code walks
 pub mod TablesLaws
--- StoreLaws: copies into lent buffers
-pub mod StoreLaws
 -- RangesLaws: what a session in range tells of its values
 pub mod RangesLaws
 -- CallLaws: what open, answer, verdict, field and stamp give

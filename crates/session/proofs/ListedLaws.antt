@@ -8,10 +8,10 @@ use native.Mathlib.Omega.{arith}
 use borrow.Author.Tests.{eqb-true, eq-eqb, not-true}
 use lib.Dec.{eqb}
 use lib.ListN.{length, getD}
-use Rattle.card.specs.Lists.{all}
-use Rattle.card.proofs.ListsLaws.{all-at}
+use Rattle.common.specs.Lists.{all}
+use Rattle.common.proofs.ListsLaws.{all-at}
 use Rattle.session.specs.Tables.{listed}
-use Rattle.session.proofs.TestLaws.{clash}
+use Rattle.common.proofs.TestLaws.{clash}
 
 -- where the key stands
 abbrev pub StandsIn : ℕ → List ℕ → Type 0

@@ -9,11 +9,11 @@ use borrow.Author.Tests.{leb-true, eqb-true, eqb-false}
 use lib.Dec.{eqb, leb}
 use lib.ListN.{length, getD, set}
 use lib.Seq.{getD-set-same, getD-set-other}
-use Rattle.card.specs.Lists.{sameBytes}
-use Rattle.card.proofs.ListsLaws.{all-at, all-of}
+use Rattle.common.specs.Lists.{sameBytes}
+use Rattle.common.proofs.ListsLaws.{all-at, all-of}
 use Rattle.session.specs.Tables.{checks, goodKind, checkServed, verdictOutcome, expiryOutcome, listed, listOutcome}
 use Rattle.session.specs.Ranges.{outcomesInRange}
-use Rattle.session.proofs.TestLaws.{clash, and-right, either}
+use Rattle.common.proofs.TestLaws.{clash, and-right, either}
 
 -- ---- the places of the checks that verdicts serve
 

@@ -13,7 +13,7 @@ use Rattle.session.specs.Ranges.{inRange}
 use Rattle.session.specs.Operation.{opened, commandOf, commandBuffer, fieldOf, stampBuffer}
 use Rattle.session.specs.Promise.{Call, Host, callNumber, numbers, History, startHost, finish, argumentsIn, readingOf, stampFor, countFor, Promise}
 use Rattle.session.specs.declared.state.Session.{Session}
-use Rattle.session.proofs.ConditionLaws.{not-named}
+use Rattle.common.proofs.ConditionLaws.{not-named}
 use Rattle.session.proofs.Invariant.{session-of, Invariant, HostStandsFor}
 use Rattle.session.proofs.InRangeLaws.{in-range}
 use Rattle.session.proofs.CommandLaws.{command-gives, command-leaves}

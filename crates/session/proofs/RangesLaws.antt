@@ -14,13 +14,13 @@ use Rattle.card.specs.Object.{empty, mostFields, rowsOf, partIn}
 use Rattle.card.specs.declared.object.Kind.{Kind}
 use Rattle.card.specs.declared.object.Kind.the-variants.{Signed, Unsigned, Fingers}
 use Rattle.card.specs.declared.object.Part.{Part}
-use Rattle.card.proofs.ListsLaws.{all-at}
+use Rattle.common.proofs.ListsLaws.{all-at}
 use Rattle.session.specs.Tables.{modeInRange, baseOf, capacity, kindAt, objectSize}
 use Rattle.session.specs.Ranges.{openingInRange, stepInRange, causeInRange, outstandingInRange, progressInRange, outcomesInRange, partInside, partsInside, cardInRange, inRange, outOfRange, rangedValues, valuesInRange}
 use Rattle.session.specs.Operation.{partFor}
 use Rattle.session.specs.declared.state.Session.{Session}
 use Rattle.session.specs.declared.range.Values.{Values}
-use Rattle.session.proofs.TestLaws.{and-parts}
+use Rattle.common.proofs.TestLaws.{and-parts}
 use Rattle.session.proofs.FigureLaws.{base-inside, base-by}
 
 -- ---- the groups

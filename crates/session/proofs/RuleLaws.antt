@@ -14,8 +14,8 @@ use Rattle.card.specs.Date.{illFormedDate, dateOf}
 use Rattle.card.specs.declared.command.Status.{Status}
 use Rattle.session.specs.Tables.{statusCause, emptyCause, fullCause, fascnCause, kindAt, fascnRead, isOther, isMore, ruleCause, objectCause, joinedCause}
 use Rattle.session.specs.Ranges.{causeInRange}
-use Rattle.session.proofs.TestLaws.{either}
-use Rattle.session.proofs.ConditionLaws.{none-fit}
+use Rattle.common.proofs.TestLaws.{either}
+use Rattle.common.proofs.ConditionLaws.{none-fit}
 
 abbrev InRange : ℕ → Type 0
 InRange k = causeInRange k ≡ true

@@ -7,14 +7,14 @@ use Prim.Native.Nat.{ℕ, _-_}
 use borrow.Author.Tests.{eqb-true}
 use lib.Dec.{eqb}
 use lib.ListN.{length}
-use Rattle.card.specs.Refusal.{refusalOf}
+use Rattle.common.specs.Refusal.{refusalOf}
 use Rattle.session.specs.Tables.{dataOf, statusBytes}
 use Rattle.session.specs.Condition.{stampConditions}
 use Rattle.session.specs.Reading.{hasNumber, Arguments, Reading, commandRefused, answerRefused, answerTaken, verdictRefused, verdictTaken, refusedBy, read, reading, refusals}
 use Rattle.session.specs.Operation.{commandOf, answerTakenSession, answerTakenBuffer, answerOf, answerBuffer, verdictRefusal, verdictOf, stampRefusal, stampAnswer}
 use Rattle.session.specs.Promise.{Call, argumentsOf, Host, callNumber, hostAfter, runCalls, numbers, LentNow, Lent}
 use Rattle.session.specs.declared.state.Session.{Session}
-use Rattle.session.proofs.TestLaws.{by-test, either}
+use Rattle.common.proofs.TestLaws.{by-test, either}
 use Rattle.session.proofs.Invariant.{session-of, host-of, Invariant, HostStandsFor, stays, StandsFor}
 use Rattle.session.proofs.InRangeLaws.{in-range}
 use Rattle.session.proofs.CommandLaws.{command-gives, on-command}

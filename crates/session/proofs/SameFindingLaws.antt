@@ -9,12 +9,12 @@ use borrow.Author.Tests.{le-ltb}
 use lib.Dec.{eqb}
 use lib.ListN.{length, length-append}
 use lib.Seq.{set-comm}
-use Rattle.card.specs.Lists.{all, sameBytes}
+use Rattle.common.specs.Lists.{all, sameBytes}
 use Rattle.card.specs.Command.{statusOf}
 use Rattle.session.specs.Tables.{goodKind, capacity, isResponse, ruleCause, joinedCause}
 use Rattle.session.specs.Reading.{Reading, withProgress, sending, continued, goodEnd, judged, answerTaken, verdictTaken}
 use Rattle.session.specs.Finding.{finding}
-use Rattle.session.proofs.TestLaws.{by-test}
+use Rattle.common.proofs.TestLaws.{by-test}
 use Rattle.session.proofs.OutcomeLaws.{place-of, places-apart}
 
 -- ---- the cutting of answers

@@ -9,8 +9,8 @@ use borrow.Author.Tests.{le-leb, ne-eqb}
 use lib.Dec.{eqb}
 use lib.ListN.{length, take}
 use lib.Seq.{length-take-le}
-use Rattle.card.specs.Lists.{overFront}
-use Rattle.card.specs.Refusal.{refusalOf}
+use Rattle.common.specs.Lists.{overFront}
+use Rattle.common.specs.Refusal.{refusalOf}
 use Rattle.card.specs.Command.{aidLeast, aidMost, aidRefused, tooShort, selectOf, getDataOf, getResponseOf, commandNumber, commandAnswer}
 use Rattle.card.specs.Command as card-command
 use Rattle.card.specs.declared.command.CommandAnswer.{CommandAnswer}

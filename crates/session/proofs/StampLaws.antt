@@ -22,7 +22,7 @@ use Rattle.session.specs.Reading.{StepOne, Found, Reading, ownFascn}
 use Rattle.session.specs.Finding.{Finding, digitsFound, expiryFound, finding, standing, fascnStamped, expiryStamped, stampOf}
 use Rattle.session.specs.Operation.{stampHead, stampIn}
 use Rattle.session.proofs.BytesLaws.{field-bytes}
-use Rattle.session.proofs.TestLaws.{clash, and-left, and-right}
+use Rattle.common.proofs.TestLaws.{clash, and-left, and-right}
 use Rattle.session.proofs.Invariant.{session-of, expiry-of, OneHeld, Stage, Invariant}
 
 -- ---- what is shown of the card

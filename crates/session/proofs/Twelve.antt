@@ -5,7 +5,7 @@ use mathlib.Core.Bool.{cond}
 use mathlib.Core.List.{List, [], _∷_, _++_, map}
 use Prim.Native.Nat.{ℕ}
 use lib.ListN.{replicate}
-use Rattle.card.specs.Lists.{listOf, sliceOf, all, number, xorOf, sameBytes}
+use Rattle.common.specs.Lists.{listOf, sliceOf, all, number, xorOf, sameBytes}
 use Rattle.card.specs.Date.{daysIn, realDate, isDigitAt, spelled, goodDate, dateOf}
 use Rattle.card.specs.Template.{tlvsFrom, tlvsOf, every, wholeTo, lengthsOf, justOne, goodValue, goodFrom, templateOf}
 use Rattle.card.specs.Command.{getResponseBytes, selectBytes, getDataBytes, statusOf}

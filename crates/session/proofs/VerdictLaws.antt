@@ -16,7 +16,7 @@ use Rattle.session.specs.Reading.{Opening, StepOne, Verdict, Found, Read
 use Rattle.session.specs.Finding.{verdictOn}
 use Rattle.session.specs.Operation.{verdictTakenSession}
 use Rattle.session.proofs.OutcomeLaws.{place-of, placed, places-apart, verdict-small, set-in-range}
-use Rattle.session.proofs.ConditionLaws.{none-fit}
+use Rattle.common.proofs.ConditionLaws.{none-fit}
 use Rattle.session.proofs.Invariant.{session-of, Stage, VerdictGave, ExpiryJudged, ListJudged, Judged, Invariant}
 
 -- ---- the outcomes

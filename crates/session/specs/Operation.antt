@@ -5,8 +5,8 @@ use mathlib.Core.List.{List, [], _∷_}
 use Prim.Native.Nat.{ℕ, _+_}
 use lib.Dec.{eqb}
 use lib.ListN.{length, getD, take, drop, replicate}
-use Rattle.card.specs.Lists.{overFront, overPlaces}
-use Rattle.card.specs.Refusal.{refusalOf}
+use Rattle.common.specs.Lists.{overFront, overPlaces}
+use Rattle.common.specs.Refusal.{refusalOf}
 use Rattle.card.specs.Object.{empty, mostFields, rowsOf, objectOf, partIn, bytesAt}
 use Rattle.card.specs.Fascn.{fascnBytes}
 use Rattle.card.specs.Command.{aidMost, statusOf}

@@ -8,7 +8,7 @@ use mathlib.Core.List.{List, [], _∷_, _++_, map}
 use Prim.Native.Nat.{ℕ, _+_, _≤_, _<_}
 use lib.Dec.{eqb}
 use lib.ListN.{length, getD, take}
-use Rattle.card.specs.Lists.{overFront}
+use Rattle.common.specs.Lists.{overFront}
 use Rattle.card.specs.Date.{realDate}
 use Rattle.card.specs.Command.{aidRefused}
 use Rattle.session.specs.Tables.{modeInRange, standsGranted, answersMost, stampSize}

@@ -5,7 +5,7 @@ use mathlib.Core.List.{List}
 use Prim.Native.Nat.{ℕ, _+_}
 use lib.Dec.{eqb, leb}
 use lib.ListN.{getD}
-use Rattle.card.specs.Lists.{all}
+use Rattle.common.specs.Lists.{all}
 use Rattle.card.specs.Date.{realDate}
 use Rattle.card.specs.Command.{goodAid}
 use Rattle.card.specs.Object.{empty, mostFields}

@@ -7,7 +7,7 @@ use mathlib.Core.List.{List, [], _∷_, _++_}
 use Prim.Native.Nat.{ℕ, _+_}
 use lib.Dec.{eqb}
 use lib.ListN.{length, getD, replicate}
-use Rattle.card.specs.Refusal.{refusalOf}
+use Rattle.common.specs.Refusal.{refusalOf}
 use Rattle.card.specs.Fascn.{fascnBytes}
 use Rattle.card.specs.Object.{fieldValue}
 use Rattle.card.specs.Command.{statusOf}

@@ -6,8 +6,8 @@ use mathlib.Core.List.{List, [], _∷_, _++_}
 use Prim.Native.Nat.{ℕ, suc, _+_, _-_, _/_, _%_}
 use lib.Dec.{eqb, ltb, leb}
 use lib.ListN.{length, getD, set, take, drop}
-use Rattle.card.specs.Lists.{listOf, all, sameBytes}
-use Rattle.card.specs.Refusal.{refusalOf}
+use Rattle.common.specs.Lists.{listOf, all, sameBytes}
+use Rattle.common.specs.Refusal.{refusalOf}
 use Rattle.card.specs.Fascn.{fascnBytes, unpackOf, keyOf}
 use Rattle.card.specs.Template.{templateOf}
 use Rattle.card.specs.Object.{fascnTag, guidTag, expiryTag, signatureTag, fingersTag, malformedObject, objectOf, fieldValue}

@@ -9,10 +9,10 @@ use crate::state::Answered;
 use crate::state::Next;
 use crate::state::Reply;
 use crate::state::Session;
-use crate::store;
 use crate::tables;
 use card::command;
 use card::command::Status;
+use common::slice;
 ghost use mathlib.Core.Path.{_≡_};
 ghost use Prim.Native.Nat.{_+_, _≤_, _<_, _^_};
 ghost use lib.ListN.{length};
@@ -132,7 +132,7 @@ impl Session {
             let p = self.progress;
             let base = tables::base_of(p.step);
             let at = base + p.filled;
-            store::store(object, at, bytes);
+            slice::store(object, at, bytes);
             let end = at + n;
             return self.appended(word, &object[base..end], n, cancelled);
         }

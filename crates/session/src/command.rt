@@ -1,9 +1,9 @@
 // Command: the next command's bytes.
+use crate::arrays;
 use crate::state::Commanded;
 use crate::state::Next;
 use crate::state::Reply;
 use crate::state::Session;
-use crate::store;
 use crate::tables;
 use card::command;
 use card::command::CommandAnswer;
@@ -12,7 +12,7 @@ ghost use mathlib.Core.Bool.{true, cond};
 ghost use mathlib.Core.List.{[], _∷_};
 ghost use lib.Dec.{eqb};
 ghost use lib.ListN.{length};
-ghost use Rattle.card.specs.Refusal.{refusalOf};
+ghost use Rattle.common.specs.Refusal.{refusalOf};
 ghost use Rattle.card.specs.Command as card-command;
 ghost use Rattle.session.specs.Condition.{nothingToSend};
 ghost use Rattle.session.specs.Ranges.{inRange};
@@ -40,7 +40,7 @@ impl Session {
                 if progress.step == 0 {
                     let aid = opening.aid;
                     let n = opening.aid_len;
-                    store::sized_aid(aid);
+                    arrays::sized_aid(aid);
                     return command::select(&aid[..n], out);
                 }
                 command::get_data(tables::kind_at(opening.mode, progress.step), out)

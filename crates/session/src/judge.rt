@@ -1,4 +1,5 @@
 // The joined data of a step, judged once 90 00 has come: its cause, or the next step.
+use crate::arrays;
 use crate::figures::CHECKS;
 use crate::figures::FAILED;
 use crate::figures::FASCN_CAUSE;
@@ -6,7 +7,6 @@ use crate::figures::PASSED;
 use crate::progress;
 use crate::state::Card;
 use crate::state::Session;
-use crate::store;
 use crate::tables;
 use card::date;
 use card::date::Date;
@@ -132,7 +132,7 @@ impl Session {
         let key = fascn::key_of(digits);
         let before = self.outcomes;
         let outcomes = judged_outcomes(before, opening.date, expiry, key, cancelled);
-        let fascn = store::array_fascn(bytes);
+        let fascn = arrays::array_fascn(bytes);
         let progress = progress::at_step(tables::step_after(opening.mode, 1));
         let step2 = self.card.step2;
         let card = Card {

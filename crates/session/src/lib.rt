@@ -1,5 +1,6 @@
 // The session with a card (document 01): open, command, answer, verdict, field and stamp. It knows the card's language only through what crate `card` states.
 mod answer;
+mod arrays;
 mod command;
 mod field;
 pub mod figures;
@@ -9,6 +10,5 @@ mod progress;
 mod range;
 mod stamp;
 pub mod state;
-mod store;
 mod tables;
 mod verdict;

@@ -1,4 +1,5 @@
 // Open: a session from mode, date and AID.
+use crate::arrays;
 use crate::figures::CHECKS;
 use crate::progress;
 use crate::state::Answered;
@@ -6,7 +7,6 @@ use crate::state::Card;
 use crate::state::Reply;
 use crate::state::Session;
 use crate::state::SessionOpening;
-use crate::store;
 use crate::tables;
 use card::command::AID_MOST;
 use card::command::good_aid;
@@ -71,7 +71,7 @@ fn opened(mode: u8, date: u32, aid: &[u8]) -> Session
     requires { ⌜ length (now aid) ≤ aidMost ⌝ }
     ensures { λ r. ⌜ r ≡ opened mode date (now (aid .entry)) ⌝ }
 {
-    let bytes = store::array_aid(aid);
+    let bytes = arrays::array_aid(aid);
     let opening = SessionOpening {
         mode,
         date,

@@ -1,4 +1,5 @@
 // Stamp: 45 bytes that say what was found.
+use crate::arrays;
 use crate::figures::DATE_AT;
 use crate::figures::EXPIRY_AT;
 use crate::figures::FASCN_AT;
@@ -10,12 +11,12 @@ use crate::figures::STATUS_CAUSE;
 use crate::state::Answered;
 use crate::state::Reply;
 use crate::state::Session;
-use crate::store;
 use crate::tables;
+use common::slice;
 ghost use mathlib.Core.Path.{_≡_};
 ghost use Prim.Native.Nat.{_≤_};
 ghost use lib.ListN.{length};
-ghost use Rattle.card.specs.Lists.{overFront};
+ghost use Rattle.common.specs.Lists.{overFront};
 ghost use Rattle.session.specs.Tables.{statusShown, fourBytes, stampSize};
 ghost use Rattle.session.specs.Operation.{replyNumber, given, stampRefusal, stampHead, stampIn, stampAnswer, stampBuffer};
 ghost use Rattle.session.specs.Promise.{StampPromise};
@@ -77,13 +78,13 @@ impl Session {
         let fascn = card.fascn;
         let date = four_bytes(opening.date);
         let expiry = four_bytes(card.expiry);
-        store::sized_outcomes(outcomes);
-        store::sized_fascn(fascn);
-        store::store(out, 0, &head);
-        store::store(out, OUTCOMES_AT, &outcomes);
-        store::store(out, DATE_AT, &date);
-        store::store(out, FASCN_AT, &fascn);
-        store::store(out, EXPIRY_AT, &expiry);
+        arrays::sized_outcomes(outcomes);
+        arrays::sized_fascn(fascn);
+        slice::store(out, 0, &head);
+        slice::store(out, OUTCOMES_AT, &outcomes);
+        slice::store(out, DATE_AT, &date);
+        slice::store(out, FASCN_AT, &fascn);
+        slice::store(out, EXPIRY_AT, &expiry);
     }
 
     // The stamp, written to the first 45 bytes of out.

@@ -10,8 +10,8 @@ use borrow.Author.Tests.{leb-true, ltb-true, ltb-false, eqb-true, eqb-false, lt-
 use lib.Dec.{eqb, leb, ltb, lit<}
 use lib.ListN.{length, getD, take, List·getD-eq-default}
 use lib.Seq.{take-at}
-use Rattle.card.specs.Lists.{listOf, all, written, overFront}
-use Rattle.card.proofs.ListsLaws.{all-at, all-of, length-listOf, getD-listOf, listOf-is}
+use Rattle.common.specs.Lists.{listOf, all, written, overFront}
+use Rattle.common.proofs.ListsLaws.{all-at, all-of, length-listOf, getD-listOf, listOf-is}
 use Rattle.text.specs.Hex.{digitValue, isHex, byteAt, bytesIn, hexDigit, hexDigitAt, hexOf}
 
 -- ---- digits

@@ -3,5 +3,3 @@
 pub mod HexLaws
 -- FormLaws: a string between two others, byte by byte
 pub mod FormLaws
--- PlaceLaws: where a byte stands, and bytes stored from a place on
-pub mod PlaceLaws

@@ -6,7 +6,7 @@ use mathlib.Core.List.{List}
 use Prim.Native.Nat.{ℕ, _+_, _%_}
 use lib.Dec.{eqb, leb}
 use lib.ListN.{length, getD}
-use Rattle.card.specs.Lists.{all, number}
+use Rattle.common.specs.Lists.{all, number}
 
 -- Each byte of s lies between those of the two strings, and there are as many.
 unfoldable pub betweenAt : List ℕ → List ℕ → List ℕ → ℕ → Bool

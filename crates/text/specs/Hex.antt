@@ -5,7 +5,7 @@ use mathlib.Core.List.{List}
 use Prim.Native.Nat.{ℕ, _+_, _*_, _-_, _/_, _%_}
 use lib.Dec.{eqb, leb, ltb}
 use lib.ListN.{length, getD}
-use Rattle.card.specs.Lists.{listOf, all}
+use Rattle.common.specs.Lists.{listOf, all}
 
 -- The value of an upper-case hexadecimal digit, 0 to 9 or A to F in ASCII; 16 for any other byte.
 unfoldable pub digitValue : ℕ → ℕ

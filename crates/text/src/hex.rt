@@ -1,8 +1,9 @@
 // Bytes in hexadecimal: pairs of upper-case digits.
+use common::number;
 ghost use mathlib.Core.Path.{_≡_};
 ghost use Prim.Native.Nat.{_+_, _*_, _/_, _≤_, _<_, min};
 ghost use lib.ListN.{length, take};
-ghost use Rattle.card.specs.Lists.{written};
+ghost use Rattle.common.specs.Lists.{written};
 ghost use Rattle.text.specs.Hex.{digitValue, isHex, byteAt, hexDigit, hexDigitAt};
 
 // The value of an upper-case hexadecimal digit; 16 for any other byte.
@@ -37,21 +38,13 @@ fn byte_at(s: &[u8], i: usize) -> u8
     digit_value(s[2 * i]) % 16 * 16 + digit_value(s[2 * i + 1]) % 16
 }
 
-// The lesser of the two.
-fn least(a: usize, b: usize) -> usize
-    ensures is { λ r. ⌜ r ≡ min a b ⌝ }
-    ensures inside { λ r. ⌜ r ≤ b ⌝ }
-{
-    if a < b { a } else { b }
-}
-
 // The bytes that s spells, stored at the front of out, as far as they fit; how many they are.
 pub fn read(s: &[u8], out: &mut [u8]) -> usize
     ensures is { λ r. ⌜ r ≡ min (length (now (s .entry)) / 2) (length (now (out .entry))) ⌝ }
     ensures stores { λ r. ⌜ now (out .exit) ≡ written (now (out .entry)) 0 r (byteAt (now (s .entry))) ⌝ }
     ensures counts { λ r. ⌜ (r ≤ length (now (out .exit))) × (r ≡ length (take r (now (out .exit)))) ⌝ }
 {
-    let n = least(s.len() / 2, out.len());
+    let n = number::least(s.len() / 2, out.len());
     for i in 0..n {
         out[i] = byte_at(s, i);
     }

@@ -1,4 +1,3 @@
-// Text as the list files and the gate program have it: bytes in hexadecimal, strings in which digits stand at given places, and where a byte stands.
-pub mod bytes;
+// Text as the list files and the gate program have it: bytes in hexadecimal and strings in which digits stand at given places.
 pub mod form;
 pub mod hex;

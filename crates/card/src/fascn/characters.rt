@@ -5,7 +5,7 @@ use crate::fascn::counts::FASCN_BYTES;
 ghost use mathlib.Core.Path.{_≡_};
 ghost use Prim.Native.Nat.{_+_, _-_, _*_, _%_, _/_, _^_, _<_};
 ghost use lib.ListN.{length, getD};
-ghost use Rattle.card.specs.Lists.{listOf, all, number, written};
+ghost use Rattle.common.specs.Lists.{listOf, all, number, written};
 ghost use Rattle.card.specs.Fascn.{fascnBytes, fascnCharacters};
 ghost use Rattle.card.specs.Characters.{Readable, Writable, oddChar, valueChar, charOf, charsIn, bytesOfChars};
 

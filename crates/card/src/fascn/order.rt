@@ -6,7 +6,7 @@ use crate::fascn::counts::CHECK_PLACE;
 use crate::fascn::counts::DIGITS;
 ghost use mathlib.Core.Path.{_≡_};
 ghost use lib.ListN.{getD};
-ghost use Rattle.card.specs.Lists.{listOf, all};
+ghost use Rattle.common.specs.Lists.{listOf, all};
 ghost use Rattle.card.specs.Fascn.{fascnDigits, digitsIn, marksIn, decimalAt};
 ghost use Rattle.card.specs.Characters.{charOf, inOrder, checkDigits, charsOf};
 

@@ -6,7 +6,7 @@ use borrow.Author.Needs.{needs}
 use borrow.Author.Tests.{ltb-true}
 use lib.ListN.{length, take}
 use Rattle.gate_lines.specs.Input.{inputStateOf, inputAfter}
-use Rattle.session.proofs.TestLaws.{and-left}
+use Rattle.common.proofs.TestLaws.{and-left}
 use Rattle.gate_stream.specs.Stream.{gatherSize}
 use Rattle.gate_stream.proofs.StreamLaws.{fed-none, fed-part, used-up}
 use Rattle.gate_stream.proofs.run_block.Statement.{statement}

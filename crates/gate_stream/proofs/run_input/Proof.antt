@@ -6,7 +6,7 @@ use borrow.Author.Needs.{needs}
 use borrow.Author.Tests.{ltb-true}
 use lib.Dec.{ltb}
 use lib.ListN.{length}
-use Rattle.session.proofs.TestLaws.{and-left}
+use Rattle.common.proofs.TestLaws.{and-left}
 use Rattle.gate_lines.specs.Input.{inputStateOf}
 use Rattle.gate_stream.specs.Stream.{Fed, gatherSize}
 use Rattle.gate_stream.proofs.StreamLaws.{fed-same, fed-on}

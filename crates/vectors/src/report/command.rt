@@ -1,11 +1,11 @@
 // Prints what the writers of commands and the reader of status words say.
 use crate::line;
 use crate::print;
-use card::bytes;
 use card::command;
 use card::command::CommandAnswer;
 use card::command::Status;
 use card::object::Kind;
+use common::slice;
 
 // How many bytes were written, and the buffer: those bytes, then the rest, which held FF.
 fn print_written(n: usize, out: &[u8]) {
@@ -104,15 +104,15 @@ fn status(b: &[u8]) {
 
 // The same for a name that is none of those, with buffers that may be too short.
 fn answer_short(name: &[u8], b: &[u8]) {
-    if bytes::same(name, b"shortselect") {
+    if slice::same(name, b"shortselect") {
         select_short(b);
         return;
     }
-    if bytes::same(name, b"shortgetsigned") {
+    if slice::same(name, b"shortgetsigned") {
         get_data_short(b);
         return;
     }
-    if bytes::same(name, b"shortgetresponse") {
+    if slice::same(name, b"shortgetresponse") {
         get_response_short(b);
         return;
     }
@@ -121,15 +121,15 @@ fn answer_short(name: &[u8], b: &[u8]) {
 
 // The same for a name that is none of answer's.
 fn answer_get_data(name: &[u8], b: &[u8]) {
-    if bytes::same(name, b"getsigned") {
+    if slice::same(name, b"getsigned") {
         get_data(Kind::Signed, b);
         return;
     }
-    if bytes::same(name, b"getunsigned") {
+    if slice::same(name, b"getunsigned") {
         get_data(Kind::Unsigned, b);
         return;
     }
-    if bytes::same(name, b"getfingers") {
+    if slice::same(name, b"getfingers") {
         get_data(Kind::Fingers, b);
         return;
     }
@@ -138,15 +138,15 @@ fn answer_get_data(name: &[u8], b: &[u8]) {
 
 // What the call of that name says of the bytes b.
 pub(crate) fn answer(name: &[u8], b: &[u8]) {
-    if bytes::same(name, b"select") {
+    if slice::same(name, b"select") {
         select(b);
         return;
     }
-    if bytes::same(name, b"getresponse") {
+    if slice::same(name, b"getresponse") {
         get_response(b);
         return;
     }
-    if bytes::same(name, b"status") {
+    if slice::same(name, b"status") {
         status(b);
         return;
     }

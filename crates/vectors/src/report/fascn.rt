@@ -1,9 +1,9 @@
 // Prints what unpack and pack say, and the characters of figure 7.
 use crate::print;
 use crate::report::object;
-use card::bytes;
 use card::fascn;
 use card::fascn::counts;
+use common::slice;
 ghost use mathlib.Core.Path.{_≡_};
 ghost use Prim.Native.Nat.{_+_, _*_, _<_};
 ghost use lib.ListN.{length};
@@ -109,11 +109,11 @@ fn pack(s: &[u8]) {
 
 // What the call of that name says of the bytes b.
 pub(crate) fn answer(name: &[u8], b: &[u8]) {
-    if bytes::same(name, b"unpack") {
+    if slice::same(name, b"unpack") {
         unpack(b);
         return;
     }
-    if bytes::same(name, b"pack") {
+    if slice::same(name, b"pack") {
         pack(b);
         return;
     }

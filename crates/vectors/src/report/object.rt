@@ -1,7 +1,6 @@
 // Prints what the readers of TLVs, templates, data objects and dates say.
 use crate::print;
 use crate::report::command;
-use card::bytes;
 use card::date;
 use card::date::Date;
 use card::object;
@@ -10,10 +9,11 @@ use card::object::Part;
 use card::template;
 use card::tlv;
 use card::tlv::Header;
+use common::slice;
 ghost use mathlib.Core.Path.{_≡_};
 ghost use Prim.Native.Nat.{_+_, _*_, _/_, _%_, _≤_};
 ghost use lib.ListN.{length};
-ghost use Rattle.card.specs.Lists.{all};
+ghost use Rattle.common.specs.Lists.{all};
 ghost use Rattle.vectors.specs.Line.{decimalPair};
 
 // A tag's bytes, high byte first.
@@ -153,7 +153,7 @@ fn real(s: &[u8]) {
 
 // The same for a name that is none of answer's.
 fn answer_object(name: &[u8], b: &[u8]) {
-    if bytes::same(name, b"signed") {
+    if slice::same(name, b"signed") {
         let tags = [
             object::FASCN_TAG,
             object::GUID_TAG,
@@ -163,12 +163,12 @@ fn answer_object(name: &[u8], b: &[u8]) {
         object_of(Kind::Signed, b, &tags);
         return;
     }
-    if bytes::same(name, b"unsigned") {
+    if slice::same(name, b"unsigned") {
         let tags = [object::FASCN_TAG, object::GUID_TAG, object::EXPIRY_TAG];
         object_of(Kind::Unsigned, b, &tags);
         return;
     }
-    if bytes::same(name, b"fingers") {
+    if slice::same(name, b"fingers") {
         let tags = [object::FINGERS_TAG];
         object_of(Kind::Fingers, b, &tags);
         return;
@@ -178,19 +178,19 @@ fn answer_object(name: &[u8], b: &[u8]) {
 
 // What the call of that name says of the bytes b.
 pub(crate) fn answer(name: &[u8], b: &[u8]) {
-    if bytes::same(name, b"header") {
+    if slice::same(name, b"header") {
         header(b);
         return;
     }
-    if bytes::same(name, b"template") {
+    if slice::same(name, b"template") {
         template_of(b);
         return;
     }
-    if bytes::same(name, b"date") {
+    if slice::same(name, b"date") {
         date_of(b);
         return;
     }
-    if bytes::same(name, b"real") {
+    if slice::same(name, b"real") {
         real(b);
         return;
     }

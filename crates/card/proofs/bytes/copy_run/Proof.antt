@@ -4,8 +4,8 @@ use Prim.Native.Nat.{_+_, _-_, _≤_}
 use native.Mathlib.Omega.{arith}
 use borrow.Author.Needs.{needs}
 use lib.ListN.{length, getD}
-use Rattle.card.specs.Lists.{written}
-use Rattle.card.proofs.ListsLaws.{written-none, written-more, length-written}
+use Rattle.common.specs.Lists.{written}
+use Rattle.common.proofs.ListsLaws.{written-none, written-more, length-written}
 use Rattle.card.proofs.bytes.copy_run.Statement.{statement}
 use Rattle.card.proofs.bytes.copy_run.Tie as tie
 

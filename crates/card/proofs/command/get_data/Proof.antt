@@ -1,8 +1,9 @@
 -- `card::command::get_data` meets its contract: each store lengthens the front. Assumes nothing.
 use mathlib.Core.Path.{refl, sym, _∙_}
+use native.Mathlib.Omega.{arith}
 use borrow.Author.Needs.{needs}
 use Rattle.card.specs.Command.{getDataBytes, getDataOf}
-use Rattle.card.proofs.ListsLaws.{over-first, over-next}
+use Rattle.common.proofs.StoreLaws.{store-first, store-next}
 use Rattle.card.proofs.CommandLaws.{tag-length, get-data-length, command-fits, command-short}
 use Rattle.card.proofs.command.get_data.Statement.{statement}
 use Rattle.card.proofs.command.get_data.Tie as tie
@@ -18,10 +19,10 @@ returns-2 c =
     let at1 = at2 .before .before .before .before .before in
     let tag = at1 .before .before .before in
     let a = tag .before .before .before .args in
-    let first = at1 .put .ensures ∙ over-first _ _ in
-    let second = rw (tag .object-tag .ensures) at (at2 .put2 .ensures) ∙ over-next _ _ _ first refl in
+    let first = at1 .store .ensures ∙ store-first _ _ (omega arith) in
+    let second = rw (tag .object-tag .ensures) at (at2 .store2 .ensures) ∙ store-next _ _ _ first refl (omega (arith, tag-length (a .kind))) in
     command-fits (getDataBytes (a .kind)) (a .out .now) (rw get-data-length (tag .before .if1 .left)) (sym (get-data-length (a .kind)))
-    (c .before .before .put3 .ensures ∙ over-next _ _ _ second (rw tag-length))
+    (c .before .before .store3 .ensures ∙ store-next _ _ _ second (rw tag-length) (omega (arith, tag-length (a .kind))))
 
 pub get-data-spec : {M : Type 1} → statement M
 get-data-spec =

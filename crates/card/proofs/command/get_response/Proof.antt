@@ -1,8 +1,9 @@
 -- `card::command::get_response` meets its contract: each store lengthens the front. Assumes nothing.
 use mathlib.Core.Path.{refl, _∙_}
+use native.Mathlib.Omega.{arith}
 use borrow.Author.Needs.{needs}
 use Rattle.card.specs.Command.{getResponseBytes, getResponseOf}
-use Rattle.card.proofs.ListsLaws.{over-first, over-next}
+use Rattle.common.proofs.StoreLaws.{store-first, store-next}
 use Rattle.card.proofs.CommandLaws.{command-fits, command-short}
 use Rattle.card.proofs.command.get_response.Statement.{statement}
 use Rattle.card.proofs.command.get_response.Tie as tie
@@ -17,8 +18,8 @@ returns-2 c =
     let at1 = c .before .before .before .before .before .before .before in
     let test = at1 .before .before .before in
     let a = test .before .before .args in
-    let first = at1 .put .ensures ∙ over-first _ _ in
-    command-fits (getResponseBytes (a .second)) (a .out .now) (test .if1 .left) refl (c .before .before .put2 .ensures ∙ over-next _ _ _ first refl)
+    let first = at1 .store .ensures ∙ store-first _ _ (omega arith) in
+    command-fits (getResponseBytes (a .second)) (a .out .now) (test .if1 .left) refl (c .before .before .store2 .ensures ∙ store-next _ _ _ first refl (omega arith))
 
 pub get-response-spec : {M : Type 1} → statement M
 get-response-spec =

@@ -4,7 +4,7 @@ use mathlib.Core.Bool.{not}
 use native.Mathlib.Omega.{arith}
 use borrow.Author.Needs.{needs}
 use Rattle.card.specs.Command.{selectBytes, selectOf, commandWritten}
-use Rattle.card.proofs.ListsLaws.{over-first, over-next}
+use Rattle.common.proofs.StoreLaws.{store-first, store-next}
 use Rattle.card.proofs.CommandLaws.{select-length, aid-most, command-fits, command-short}
 use Rattle.card.proofs.command.select.Statement.{statement}
 use Rattle.card.proofs.command.select.Tie as tie
@@ -33,12 +33,12 @@ returns-3 c =
     let test = at1 .before .before .before in
     let a = test .before .before .before .before .before .args in
     let accepted = ap not (sym (test .before .before .good-aid .ensures)) ∙ test .before .if1 .left in
-    let first = at1 .put .ensures ∙ over-first _ _ in
-    let second = at2 .put2 .ensures ∙ over-next _ _ _ first refl in
-    let third = at3 .put3 .ensures ∙ over-next _ _ _ second refl in
+    let first = at1 .store .ensures ∙ store-first _ _ (omega arith) in
+    let second = at2 .store2 .ensures ∙ store-next _ _ _ first refl (omega arith) in
+    let third = at3 .store3 .ensures ∙ store-next _ _ _ second refl (omega arith) in
     rw accepted
     (command-fits (selectBytes (a .aid .now)) (a .out .now) (rw select-length (test .if2 .left)) (sym (select-length (a .aid .now)))
-    (c .before .before .put4 .ensures ∙ over-next _ _ _ third (omega arith)))
+    (c .before .before .store4 .ensures ∙ store-next _ _ _ third (omega arith) (omega arith)))
 
 pub select-spec : {M : Type 1} → statement M
 select-spec =

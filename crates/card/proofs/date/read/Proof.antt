@@ -6,10 +6,10 @@ use native.Mathlib.Omega.{arith}
 use borrow.Author.Needs.{needs}
 use lib.Dec.{leb}
 use lib.ListN.{getD}
-use Rattle.card.specs.Lists.{all, number}
+use Rattle.common.specs.Lists.{all, number}
 use Rattle.card.specs.Date.{isDigitAt, dateOf}
-use Rattle.card.proofs.ListsLaws.{all-more}
-use Rattle.card.proofs.NumberLaws.{number-more}
+use Rattle.common.proofs.ListsLaws.{all-more}
+use Rattle.common.proofs.NumberLaws.{number-more}
 use Rattle.card.proofs.DateLaws.{room, date-is, not-eight}
 use Rattle.card.proofs.date.read.Statement.{statement}
 use Rattle.card.proofs.date.read.Tie as tie

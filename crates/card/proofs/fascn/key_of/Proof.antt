@@ -6,9 +6,9 @@ use native.Mathlib.Omega.{arith}
 use borrow.Author.Needs.{needs}
 use lib.Dec.{lit<}
 use lib.ListN.{getD}
-use Rattle.card.specs.Lists.{number}
+use Rattle.common.specs.Lists.{number}
 use Rattle.card.specs.Fascn.{keyOf}
-use Rattle.card.proofs.NumberLaws.{number-more}
+use Rattle.common.proofs.NumberLaws.{number-more}
 use native.Mathlib.Nat.{pow-succ', pow-le-pow-right}
 use Rattle.card.proofs.fascn.key_of.Statement.{statement}
 use Rattle.card.proofs.fascn.key_of.Tie as tie

@@ -2,7 +2,7 @@
 use mathlib.Core.Path.{_≡_, _∙_}
 use borrow.Author.Needs.{needs}
 use borrow.Author.Tests.{ne-eqb}
-use Rattle.card.specs.Lists.{all}
+use Rattle.common.specs.Lists.{all}
 use Rattle.card.specs.Fascn.{oddAt, valuesIn, unpackRefusal, unpackOf}
 use Rattle.card.proofs.FascnLaws.{unpack-is}
 use Rattle.card.proofs.CharacterLaws.{values-chars, odd-chars}

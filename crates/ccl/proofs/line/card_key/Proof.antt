@@ -2,7 +2,7 @@
 use mathlib.Core.Path.{_≡_, sym, _∙_}
 use native.Mathlib.Omega.{arith}
 use borrow.Author.Needs.{needs}
-use Rattle.card.specs.Lists.{listOf}
+use Rattle.common.specs.Lists.{listOf}
 use Rattle.text.proofs.FormLaws.{between-at}
 use Rattle.ccl.specs.Line.{cardText, digitOf, goodCard, cardOf}
 use Rattle.ccl.proofs.line.card_key.Statement.{statement}

@@ -8,7 +8,7 @@ use native.Mathlib.Omega.{arith}
 use borrow.Author.Needs.{needs}
 use lib.ListN.{length, getD, set, length-set}
 use lib.Seq.{getD-set-same, getD-set-other}
-use Rattle.card.proofs.ListsLaws.{listOf-is}
+use Rattle.common.proofs.ListsLaws.{listOf-is}
 use Rattle.ccl.specs.Line.{digitOf}
 use Rattle.ccl.proofs.line.digits_of.Statement.{statement}
 use Rattle.ccl.proofs.line.digits_of.Tie as tie

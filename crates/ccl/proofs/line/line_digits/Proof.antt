@@ -1,7 +1,7 @@
 -- `ccl::line::line_digits` meets its contract: both are the same list. Assumes nothing.
 use mathlib.Core.Path.{refl}
 use borrow.Author.Needs.{needs}
-use Rattle.card.specs.Lists.{listOf, sliceOf}
+use Rattle.common.specs.Lists.{listOf, sliceOf}
 use Rattle.ccl.specs.Line.{lineDigits}
 use Rattle.ccl.proofs.line.line_digits.Statement.{statement}
 use Rattle.ccl.proofs.line.line_digits.Tie as tie

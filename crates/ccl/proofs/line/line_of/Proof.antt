@@ -1,6 +1,6 @@
 -- `ccl::line::line_of` meets its contract: with the digits, both are the same list. Assumes nothing.
 use borrow.Author.Needs.{needs}
-use Rattle.card.specs.Lists.{listOf}
+use Rattle.common.specs.Lists.{listOf}
 use Rattle.ccl.specs.Line.{lineOf, cardText}
 use Rattle.ccl.proofs.line.line_of.Statement.{statement}
 use Rattle.ccl.proofs.line.line_of.Tie as tie

@@ -5,7 +5,7 @@ use native.Mathlib.Omega.{arith}
 use borrow.Author.Needs.{needs}
 use borrow.Author.Tests.{not-true, not-false}
 use lib.ListN.{length}
-use Rattle.card.specs.Lists.{listOf}
+use Rattle.common.specs.Lists.{listOf}
 use Rattle.ccl.specs.Line.{goodLine, lineOf, cardText, digitOf}
 use Rattle.ccl.specs.ListText.{lineAt, passing, goodLines}
 use Rattle.ccl.proofs.PassingLaws.{passing-more, passing-stop}

@@ -4,8 +4,8 @@ use Prim.Native.Nat.{_-_, _≤_}
 use native.Mathlib.Omega.{arith}
 use borrow.Author.Needs.{needs}
 use lib.ListN.{length}
-use Rattle.card.specs.Lists.{written}
-use Rattle.card.proofs.ListsLaws.{written-none, front-more, length-written}
+use Rattle.common.specs.Lists.{written}
+use Rattle.common.proofs.ListsLaws.{written-none, front-more, length-written}
 use Rattle.ccl.specs.Line.{lineKey}
 use Rattle.ccl.specs.ListText.{keyAt}
 use Rattle.ccl.proofs.LinesLaws.{part-line, length-part}

@@ -5,8 +5,8 @@ use native.Mathlib.Nat.{zero-add}
 use native.Mathlib.Omega.{arith}
 use borrow.Author.Needs.{needs}
 use lib.ListN.{length, getD}
-use Rattle.card.specs.Lists.{written}
-use Rattle.card.proofs.ListsLaws.{written-none, written-more, length-written, written-over}
+use Rattle.common.specs.Lists.{written}
+use Rattle.common.proofs.ListsLaws.{written-none, written-more, length-written, written-over}
 use Rattle.ccl.proofs.list.put_line.Statement.{statement}
 use Rattle.ccl.proofs.list.put_line.Tie as tie
 

@@ -5,8 +5,8 @@ use native.Mathlib.Omega.{arith}
 use borrow.Author.Needs.{needs}
 use lib.ListN.{length, take}
 use lib.Seq.{take-length}
-use Rattle.card.specs.Lists.{overFront}
-use Rattle.card.proofs.ListsLaws.{length-front}
+use Rattle.common.specs.Lists.{overFront}
+use Rattle.common.proofs.ListsLaws.{length-front}
 use Rattle.ccl.specs.ListText.{linesOf}
 use Rattle.ccl.proofs.LineLaws.{length-line}
 use Rattle.ccl.proofs.LinesLaws.{length-first, line-over}

@@ -5,8 +5,8 @@ use native.Mathlib.Omega.{arith}
 use borrow.Author.Needs.{needs}
 use lib.Dec.{ltb}
 use lib.ListN.{length, getD}
-use Rattle.card.specs.Lists.{all}
-use Rattle.card.proofs.ListsLaws.{all-more}
+use Rattle.common.specs.Lists.{all}
+use Rattle.common.proofs.ListsLaws.{all-more}
 use Rattle.ccl.specs.Line.{keyLimit}
 use Rattle.ccl.specs.ListText.{smallKeys}
 use Rattle.ccl.proofs.list.small_keys.Statement.{statement}

@@ -4,8 +4,8 @@ use Prim.Native.Nat.{min, _+_, _-_, _≤_}
 use native.Mathlib.Omega.{arith}
 use borrow.Author.Needs.{needs}
 use lib.ListN.{length, getD, length-set}
-use Rattle.card.specs.Lists.{written}
-use Rattle.card.proofs.ListsLaws.{written-none, written-more}
+use Rattle.common.specs.Lists.{written}
+use Rattle.common.proofs.ListsLaws.{written-none, written-more}
 use Rattle.gate_lines.specs.Input.{mostHeld, heldAfter, lineAfter}
 use Rattle.gate_lines.proofs.input.hold.Statement.{statement}
 use Rattle.gate_lines.proofs.input.hold.Tie as tie

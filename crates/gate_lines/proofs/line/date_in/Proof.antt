@@ -7,8 +7,8 @@ use native.Mathlib.Omega.{arith}
 use borrow.Author.Needs.{needs}
 use lib.Dec.{lit<}
 use lib.ListN.{getD}
-use Rattle.card.specs.Lists.{number}
-use Rattle.card.proofs.NumberLaws.{number-more}
+use Rattle.common.specs.Lists.{number}
+use Rattle.common.proofs.NumberLaws.{number-more}
 use Rattle.text.specs.Form.{decimal}
 use Rattle.gate_lines.proofs.line.date_in.Statement.{statement}
 use Rattle.gate_lines.proofs.line.date_in.Tie as tie

@@ -1,7 +1,7 @@
 -- `gate_lines::line::digit_in` meets its contract. Assumes nothing.
 use native.Mathlib.Nat.{zero-add, zero-mul, add-zero}
 use borrow.Author.Needs.{needs}
-use Rattle.card.specs.Lists.{number}
+use Rattle.common.specs.Lists.{number}
 use Rattle.text.specs.Form.{decimal}
 use Rattle.gate_lines.proofs.line.digit_in.Statement.{statement}
 use Rattle.gate_lines.proofs.line.digit_in.Tie as tie

@@ -6,8 +6,8 @@ use native.Mathlib.Omega.{arith}
 use borrow.Author.Needs.{needs}
 use lib.Dec.{eqb}
 use lib.ListN.{length, getD}
-use Rattle.card.specs.Lists.{all}
-use Rattle.card.proofs.ListsLaws.{all-more}
+use Rattle.common.specs.Lists.{all}
+use Rattle.common.proofs.ListsLaws.{all-more}
 use Rattle.session.specs.Tables.{listed}
 use Rattle.session.proofs.judge.listed.Statement.{statement}
 use Rattle.session.proofs.judge.listed.Tie as tie

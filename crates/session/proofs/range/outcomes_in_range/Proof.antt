@@ -5,8 +5,8 @@ use mathlib.Core.Path.{_≡_, refl}
 use Prim.Native.Nat.{_-_, _≤_}
 use lib.Dec.{leb}
 use lib.ListN.{getD}
-use Rattle.card.specs.Lists.{all}
-use Rattle.card.proofs.ListsLaws.{all-more}
+use Rattle.common.specs.Lists.{all}
+use Rattle.common.proofs.ListsLaws.{all-more}
 use Rattle.session.specs.Tables.{checks}
 use Rattle.session.specs.Ranges.{outcomesInRange}
 use Rattle.session.proofs.range.outcomes_in_range.Statement.{statement}

@@ -4,9 +4,9 @@ use native.Mathlib.Omega.{arith}
 use mathlib.Core.Path.{_≡_}
 use Prim.Native.Nat.{_-_, _≤_}
 use lib.ListN.{getD}
-use Rattle.card.specs.Lists.{all}
+use Rattle.common.specs.Lists.{all}
 use Rattle.card.specs.Object.{empty, mostFields}
-use Rattle.card.proofs.ListsLaws.{all-more}
+use Rattle.common.proofs.ListsLaws.{all-more}
 use Rattle.session.specs.Ranges.{partInside, partsInside}
 use Rattle.session.proofs.range.parts_inside.Statement.{statement}
 use Rattle.session.proofs.range.parts_inside.Tie as tie

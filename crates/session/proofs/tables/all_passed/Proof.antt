@@ -6,8 +6,8 @@ use mathlib.Core.Bool.{Bool, not, _||_}
 use Prim.Native.Nat.{ℕ, _+_, _-_, _≤_}
 use lib.Dec.{eqb}
 use lib.ListN.{getD}
-use Rattle.card.specs.Lists.{all}
-use Rattle.card.proofs.ListsLaws.{all-more}
+use Rattle.common.specs.Lists.{all}
+use Rattle.common.proofs.ListsLaws.{all-more}
 use Rattle.session.specs.Tables as tables
 use Rattle.session.specs.Tables.{checks, passed, allPassed}
 use Rattle.session.proofs.tables.all_passed.Statement.{statement}

@@ -4,8 +4,8 @@ use native.Mathlib.Omega.{arith}
 use mathlib.Core.Path.{_≡_, sym}
 use Prim.Native.Nat.{_-_, _≤_}
 use lib.ListN.{replicate}
-use Rattle.card.specs.Lists.{written}
-use Rattle.card.proofs.ListsLaws.{written-none, front-more, front-end}
+use Rattle.common.specs.Lists.{written}
+use Rattle.common.proofs.ListsLaws.{written-none, front-more, front-end}
 use Rattle.session.specs.Tables.{checks, neededAt, neededOutcomes}
 use Rattle.session.proofs.tables.needed_outcomes.Statement.{statement}
 use Rattle.session.proofs.tables.needed_outcomes.Tie as tie

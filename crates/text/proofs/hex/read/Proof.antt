@@ -5,8 +5,8 @@ use native.Mathlib.Omega.{arith}
 use borrow.Author.Needs.{needs}
 use lib.ListN.{length}
 use lib.Seq.{length-take-le}
-use Rattle.card.specs.Lists.{written}
-use Rattle.card.proofs.ListsLaws.{written-none, front-more, length-written}
+use Rattle.common.specs.Lists.{written}
+use Rattle.common.proofs.ListsLaws.{written-none, front-more, length-written}
 use Rattle.text.specs.Hex.{byteAt}
 use Rattle.text.proofs.hex.read.Statement.{statement}
 use Rattle.text.proofs.hex.read.Tie as tie

@@ -4,9 +4,9 @@ use Prim.Native.Nat.{_-_, _≤_}
 use native.Mathlib.Omega.{arith}
 use borrow.Author.Needs.{needs}
 use lib.ListN.{getD}
-use Rattle.card.specs.Lists.{all}
+use Rattle.common.specs.Lists.{all}
 use Rattle.card.specs.Characters.{oddChar}
-use Rattle.card.proofs.ListsLaws.{all-more}
+use Rattle.common.proofs.ListsLaws.{all-more}
 use Rattle.card.proofs.fascn.characters.all_odd.Statement.{statement}
 use Rattle.card.proofs.fascn.characters.all_odd.Tie as tie
 

@@ -4,9 +4,9 @@ use Prim.Native.Nat.{_-_, _*_, _≤_}
 use native.Mathlib.Omega.{arith}
 use borrow.Author.Needs.{needs}
 use lib.ListN.{length, replicate}
-use Rattle.card.specs.Lists.{written}
+use Rattle.common.specs.Lists.{written}
 use Rattle.card.specs.Characters.{regrouped, bytesOfChars}
-use Rattle.card.proofs.ListsLaws.{written-none, front-end}
+use Rattle.common.proofs.ListsLaws.{written-none, front-end}
 use Rattle.card.proofs.CharacterLaws.{regrouped-back}
 use Rattle.card.proofs.fascn.characters.bytes_of.Statement.{statement}
 use Rattle.card.proofs.fascn.characters.bytes_of.Tie as tie

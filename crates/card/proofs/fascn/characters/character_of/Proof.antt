@@ -5,7 +5,7 @@ use Prim.Native.Nat.{ℕ, _+_, _*_, _/_, _%_}
 use native.Mathlib.Omega.{arith}
 use borrow.Author.Needs.{needs}
 use lib.ListN.{getD}
-use Rattle.card.specs.Lists.{number}
+use Rattle.common.specs.Lists.{number}
 use Rattle.card.specs.Fascn.{charBit}
 use Rattle.card.specs.Characters.{charOf}
 use native.Mathlib.Nat.{div-one}

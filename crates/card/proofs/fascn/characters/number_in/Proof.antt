@@ -5,8 +5,8 @@ use native.Mathlib.Nat.{mod-lt}
 use native.Mathlib.Omega.{arith}
 use borrow.Author.Needs.{needs}
 use lib.ListN.{getD}
-use Rattle.card.specs.Lists.{number}
-use Rattle.card.proofs.NumberLaws.{number-more, number-room}
+use Rattle.common.specs.Lists.{number}
+use Rattle.common.proofs.NumberLaws.{number-more, number-room}
 use Rattle.card.proofs.fascn.characters.number_in.Statement.{statement}
 use Rattle.card.proofs.fascn.characters.number_in.Tie as tie
 

@@ -5,8 +5,8 @@ use native.Mathlib.Nat.{mod-lt, lt-of-le-of-lt, mul-le-mul-left}
 use native.Mathlib.Omega.{arith}
 use borrow.Author.Needs.{needs}
 use lib.ListN.{length}
-use Rattle.card.specs.Lists.{written}
-use Rattle.card.proofs.ListsLaws.{written-none, written-more, length-written}
+use Rattle.common.specs.Lists.{written}
+use Rattle.common.proofs.ListsLaws.{written-none, written-more, length-written}
 use lib.Pow.{pow-pos}
 use Rattle.card.proofs.fascn.characters.put_digits.Statement.{statement}
 use Rattle.card.proofs.fascn.characters.put_digits.Tie as tie

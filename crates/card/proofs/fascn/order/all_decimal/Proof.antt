@@ -3,9 +3,9 @@ use mathlib.Core.Path.{_≡_, refl}
 use Prim.Native.Nat.{_-_, _≤_}
 use native.Mathlib.Omega.{arith}
 use borrow.Author.Needs.{needs}
-use Rattle.card.specs.Lists.{all}
+use Rattle.common.specs.Lists.{all}
 use Rattle.card.specs.Fascn.{decimalAt}
-use Rattle.card.proofs.ListsLaws.{all-more}
+use Rattle.common.proofs.ListsLaws.{all-more}
 use Rattle.card.proofs.fascn.order.all_decimal.Statement.{statement}
 use Rattle.card.proofs.fascn.order.all_decimal.Tie as tie
 

@@ -1,6 +1,6 @@
 -- `card::fascn::order::digits_in` meets its contract: each run of digits is copied to its place. Assumes nothing.
 use borrow.Author.Needs.{needs}
-use Rattle.card.specs.Lists.{listOf, sliceOf, written}
+use Rattle.common.specs.Lists.{listOf, sliceOf, written}
 use Rattle.card.specs.Fascn.{digitsFrom}
 use Rattle.card.proofs.fascn.order.digits_in.Statement.{statement}
 use Rattle.card.proofs.fascn.order.digits_in.Tie as tie

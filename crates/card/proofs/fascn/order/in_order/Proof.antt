@@ -1,6 +1,6 @@
 -- `card::fascn::order::in_order` meets its contract: each run of characters is copied to its place, between the marks. Assumes nothing.
 use borrow.Author.Needs.{needs}
-use Rattle.card.specs.Lists.{listOf, sliceOf, written}
+use Rattle.common.specs.Lists.{listOf, sliceOf, written}
 use Rattle.card.specs.Fascn.{valuesFrom}
 use Rattle.card.specs.Characters.{inOrder, marksMapped}
 use Rattle.card.proofs.fascn.order.in_order.Statement.{statement}

@@ -11,22 +11,22 @@ use Rattle.gate_lines.proofs.state.State.answer_line.Statement.{stateme
 use Rattle.gate_lines.proofs.state.State.answer_line.Tie as tie
 
 slice-aggregate-answer-2 : tie.Need-slice-aggregate-answer-2
-slice-aggregate-answer-2 c = sym (length-take-le _ (c .before .before .before .before .before .before .before .before .before .before .before .before .before .before .before .args .cards .now) (c .before .before .before .within .ensures .1))
+slice-aggregate-answer-2 c = sym (length-take-le _ (c .before .before .before .before .before .before .before .before .before .before .before .before .before .before .before .args .cards .now) (c .before .before .before .least .ensures .1))
 
 returns : tie.Need-returns
 unfolding gateAfter replyTo
 returns c =
     let answered = c .before .before .before .answer in
-    let at-within = c .before .before .before .before .before .before .before in
-    let sent = at-within .before .before .before .command in
-    let at-read = at-within .before .before .before .before .before .before .before in
+    let at-least = c .before .before .before .before .before .before .before in
+    let sent = at-least .before .before .before .command in
+    let at-read = at-least .before .before .before .before .before .before .before in
     let start = at-read .before .before .before .before .before in
     let a = start .args in
     let r = at-read .read in
     let ready : sent .result .session ≡ commandOf (a .self .session) commandRoom .2 = ap (λ x. x .2) (sent .ensures .0) in
     let bytes = spelled (a .spelled .now) (r .last .1 .0) (r .result) (start .pre) (r .ensures .0) (r .ensures .1 .0) in
-    let keys = lent (a .self .cards) (at-within .within .result) (a .cards .now) (at-within .within .ensures .0) in
-    let got : given (answered .result) ≡ answerOf (sent .result .session) (a .object .now) (take (r .result) (r .last .1 .0)) (take (at-within .within .result) (a .cards .now)) = answered .ensures .0 in
+    let keys = lent (a .self .cards) (at-least .least .result) (a .cards .now) (at-least .least .ensures .0) in
+    let got : given (answered .result) ≡ answerOf (sent .result .session) (a .object .now) (take (r .result) (r .last .1 .0)) (take (at-least .least .result) (a .cards .now)) = answered .ensures .0 in
     let e : given (answered .result) ≡ answerOf (commandOf (a .self .session) commandRoom .2) (a .object .now) (bytesIn (a .spelled .now)) (take (a .self .cards) (a .cards .now)) = rw (ready, bytes, keys) at got in
     let p = stepped (c .answered-by .result) (answered .result) (a .self .cards) _ e (c .answered-by .ensures) in
     (rw (p .1, answered .ensures .1 .0, ready, bytes) refl, (p .0, ap (λ x. x .cards) (p .1)))

@@ -5,8 +5,8 @@ use mathlib.Core.Path.{refl, ap, _∙_}
 use mathlib.Core.List.{List}
 use Prim.Native.Nat.{ℕ, _+_, _≤_}
 use lib.ListN.{length, take}
-use Rattle.card.proofs.ListsLaws.{length-over}
-use Rattle.text.proofs.PlaceLaws.{store-fits}
+use Rattle.common.proofs.ListsLaws.{length-over}
+use Rattle.common.proofs.StoreLaws.{store-fits}
 use Rattle.gate_lines.proofs.ReplyTextLaws.{over-after}
 use Rattle.gate_lines.proofs.state.Text.with.Statement.{statement}
 use Rattle.gate_lines.proofs.state.Text.with.Tie as tie

@@ -5,6 +5,8 @@ use native.Mathlib.Omega.{arith}
 use borrow.Author.Tests.{eq-eqb, ne-eqb}
 use borrow.Author.Needs.{needs}
 use lib.ListN.{length}
+use Rattle.common.specs.Lists.{overPlaces}
+use Rattle.common.proofs.StoreLaws.{store-fits}
 use denote.Ref.{now}
 use Rattle.card.specs.Command.{statusOf}
 use Rattle.session.specs.Tables.{objectSize}
@@ -17,38 +19,56 @@ use Rattle.session.proofs.state.Session.take_answer.Tie as tie
 
 end-fits : (c : tie.After-base-of) → let a = c .before .before .before .before .before .before .before .before .before .args in c .base-of .result + a .self .progress .filled + length (a .bytes .now) ≤ objectSize
 end-fits c =
-    let s = c .before .before .before .before .before .before .before .before .before .args .self in
-    omega (arith, base-fits (s .opening .mode) (s .progress .step), c .base-of .ensures, rule-fits _ _ _ _ _ (sym (c .before .before .before .cause-in .ensures) ∙ c .before .before .if1 .taken))
+    let tested = c .before .before in
+    let s = tested .before .before .before .before .before .before .before .args .self in
+    omega (arith, base-fits (s .opening .mode) (s .progress .step), c .base-of .ensures, rule-fits _ _ _ _ _ (sym (tested .before .cause-in .ensures) ∙ tested .if1 .taken))
 
 cause-is : (c : tie.After-cause-in) → let a = c .before .before .before .before .before .before .args in c .cause-in .result ≡ causeIn (a .self) (statusOf (a .status .now)) (length (a .bytes .now))
 cause-is c = rw (← c .before .status-of .ensures) (c .cause-in .ensures)
 
 cause-in-requires : tie.Need-cause-in-requires
-cause-in-requires c κs = let s = c .before .before .before .before .before .args .self in omega (arith, base-fits (s .opening .mode) (s .progress .step), object-small, c .before .before .before .before .before .pre)
+cause-in-requires c κs = let first = c .before .before .before .before .before in let s = first .args .self in omega (arith, base-fits (s .opening .mode) (s .progress .step), object-small, first .pre)
 
 add-at : tie.Need-add-at
 add-at c = omega (arith, object-small, end-fits (c .before))
 
-store-requires : tie.Need-store-requires
-store-requires c κs = omega (arith, end-fits (c .before .before), c .before .before .before .before .before .before .before .before .before .before .before .pre .0)
+-- what is stored fits
+stored : (c : tie.After-store) → let based = c .before .before .before in let a = based .before .before .before .before .before .before .before .before .before .args in
+    c .store .last .0 ≡ overPlaces (a .object .now) (based .base-of .result + a .self .progress .filled) (a .bytes .now)
+stored c =
+    let based = c .before .before .before in
+    let first = based .before .before .before .before .before .before .before .before .before in
+    c .store .ensures ∙ store-fits (first .args .object .now) (first .args .bytes .now) (based .base-of .result + first .args .self .progress .filled) (omega (arith, end-fits based, first .pre .0))
 
 add-end : tie.Need-add-end
 add-end c = omega (arith, object-small, end-fits (c .before .before .before .before .before))
 
 part-appended-end : tie.Need-part-appended-end
-part-appended-end c = omega (arith, c .before .before .before .store .kept .0, end-fits (c .before .before .before .before .before .before), c .before .before .before .before .before .before .before .before .before .before .before .before .before .before .before .pre .0)
+part-appended-end c =
+    let kept = c .before .before .before in
+    let based = kept .before .before .before in
+    let tested = based .before .before in
+    omega (arith, kept .store .kept .0, end-fits based, tested .before .before .before .before .before .before .before .pre .0)
 
 appended-requires : tie.Need-appended-requires
-appended-requires c κs = let s = c .before .before .before .before .before .before .before .before .before .before .before .before .before .before .before .before .args .self in omega (arith, base-fits (s .opening .mode) (s .progress .step), object-small, c .before .before .before .before .before .before .before .before .before .before .before .before .before .before .before .before .pre)
+appended-requires c κs =
+    let tested = c .before .before .before .before .before .before .before .before .before in
+    let first = tested .before .before .before .before .before .before .before in
+    let s = first .args .self in
+    omega (arith, base-fits (s .opening .mode) (s .progress .step), object-small, first .pre)
 
 returns : tie.Need-returns
 unfolding answerTakenSession answerTakenBuffer joinedIn
 returns c =
-    let a = c .before .before .before .before .before .before .before .before .before .before .before .before .before .before .before .before .before .args in
-    let b = c .before .before .before .before .before .before .before .before .base-of in
+    let kept = c .before .before .before .before .before in
+    let based = kept .before .before .before in
+    let tested = based .before .before in
+    let asked = tested .before in
+    let a = asked .before .before .before .before .before .before .args in
+    let b = based .base-of in
     let e : b .result + a .self .progress .filled + length (a .bytes .now) - b .result ≡ a .self .progress .filled + length (a .bytes .now) = omega arith in
-    let z = none (cause-is (c .before .before .before .before .before .before .before .before .before .before .before)) (c .before .before .before .before .before .before .before .before .before .before .if1 .taken) in
-    (rw (z, ← c .before .before .before .before .before .before .before .before .before .before .before .before .status-of .ensures, ← b .ensures, ← c .before .before .before .before .before .store .ensures, ← e) (c .appended .ensures), rw (z, ← b .ensures) (c .before .before .before .before .before .store .ensures))
+    let z = none (cause-is asked) (tested .if1 .taken) in
+    (rw (z, ← asked .before .status-of .ensures, ← b .ensures, ← stored kept, ← e) (c .appended .ensures), rw (z, ← b .ensures) (stored kept))
 
 returns-2 : tie.Need-returns-2
 unfolding answerTakenSession answerTakenBuffer
@@ -66,6 +86,6 @@ pub take-answer-spec : {M : Type 1} → statement M
 take-answer-spec =
     tie.close
     (tie.spec
-    (λ c κs. search needs) cause-in-requires (λ c κs. search needs) add-at store-requires add-end (λ c. search needs) (λ c. search needs)
+    (λ c κs. search needs) cause-in-requires (λ c κs. search needs) add-at (λ c κs. search needs) add-end (λ c. search needs) (λ c. search needs)
     part-appended-end appended-requires (λ c. search needs) returns (λ c. search needs) (λ c. search needs) (λ c κs. search needs) returns-2
     (λ c κs. search needs) returns-3)

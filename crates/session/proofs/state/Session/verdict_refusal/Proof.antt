@@ -5,7 +5,7 @@ use Prim.Native.Nat.{ℕ}
 use borrow.Author.Needs.{needs}
 use borrow.Author.Tests.{eq-eqb, ne-eqb}
 use lib.ListN.{drop}
-use Rattle.card.specs.Refusal.{refusalOf}
+use Rattle.common.specs.Refusal.{refusalOf}
 use Rattle.card.specs.Fascn.{unpackOf}
 use Rattle.session.specs.Condition.{verdictConditions}
 use Rattle.session.specs.Operation.{verdictRefusal}

@@ -2,8 +2,9 @@
 use borrow.Author.Needs.{needs}
 use mathlib.Core.Path.{_≡_, refl, sym, ap, _∙_}
 use native.Mathlib.Omega.{arith}
-use lib.ListN.{length}
-use Rattle.session.proofs.StoreLaws.{over-five}
+use mathlib.Core.List.{_++_}
+use lib.ListN.{length, length-append}
+use Rattle.common.proofs.StoreLaws.{store-first, store-next}
 use Rattle.session.specs.Tables.{headSize, stampLayout, stampSize}
 use Rattle.session.specs.Operation.{stampHead, stampIn}
 use Rattle.session.specs.declared.state.Session.{Session}
@@ -16,7 +17,7 @@ unfolding stampHead
 head-length s = refl
 
 returns : tie.Need-returns
-unfolding stampIn stampLayout
+unfolding stampIn stampLayout stampSize
 returns c =
     let at4 = c .before .before .before .before .before .before .before in
     let at3 = at4 .before .before .before .before .before in
@@ -28,11 +29,27 @@ returns c =
     let first = sizes .before .before .before .before .before .before .before .before in
     let head = first .stamp-head in
     let a = first .before .before .args in
+    let room = first .before .before .pre in
+    let h = head .result in
+    let o = a .self .outcomes in
+    let d = date .result in
+    let f = a .self .card .fascn in
+    let m = a .out .now in
+    let h-long : length h ≡ headSize = ap length (head .ensures) ∙ head-length (a .self) in
+    let o-long = sizes .before .sized-outcomes .ensures in
+    let d-long = ap length (date .ensures) in
+    let f-long = sizes .sized-fascn .ensures in
+    let e-long = ap length (expiry .ensures) in
+    let first = at1 .store .ensures ∙ store-first m h (omega (arith, room, h-long)) in
+    let second = at2 .store2 .ensures ∙ store-next h o m first (sym h-long) (omega (arith, room, h-long, o-long)) in
+    let ho = length-append h o in
+    let third = at3 .store3 .ensures ∙ store-next (h ++ o) d m second (omega (arith, ho, h-long, o-long)) (omega (arith, room, ho, h-long, o-long, d-long)) in
+    let hod = length-append (h ++ o) d in
+    let fourth = at4 .store4 .ensures ∙ store-next ((h ++ o) ++ d) f m third (omega (arith, hod, ho, h-long, o-long, d-long)) (omega (arith, room, hod, ho, h-long, o-long, d-long, f-long)) in
+    let hodf = length-append ((h ++ o) ++ d) f in
     rw (← head .ensures, ← date .ensures, ← expiry .ensures)
-    (over-five (head .result) (a .self .outcomes) (date .result) (a .self .card .fascn) (expiry .result) (a .out .now)
-    (sym (ap length (head .ensures) ∙ head-length (a .self))) (omega (arith, sizes .before .sized-outcomes .ensures)) (omega (arith, ap length (date .ensures)))
-    (omega (arith, sizes .sized-fascn .ensures))
-    (at1 .store .ensures) (at2 .store2 .ensures) (at3 .store3 .ensures) (at4 .store4 .ensures) (c .before .before .store5 .ensures))
+    (c .before .before .store5 .ensures
+    ∙ store-next (((h ++ o) ++ d) ++ f) (expiry .result) m fourth (omega (arith, hodf, hod, ho, h-long, o-long, d-long, f-long)) (omega (arith, hodf, hod, ho, h-long, o-long, d-long, f-long, e-long, room)))
 
 pub write-stamp-spec : {M : Type 1} → statement M
 unfolding stampSize

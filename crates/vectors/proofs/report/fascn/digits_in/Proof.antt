@@ -4,8 +4,8 @@ use Prim.Native.Nat.{_-_, _≤_}
 use native.Mathlib.Omega.{arith}
 use borrow.Author.Needs.{needs}
 use lib.ListN.{getD, replicate}
-use Rattle.card.specs.Lists.{written}
-use Rattle.card.proofs.ListsLaws.{written-none, front-more, front-end, listOf-is}
+use Rattle.common.specs.Lists.{written}
+use Rattle.common.proofs.ListsLaws.{written-none, front-more, front-end, listOf-is}
 use Rattle.vectors.proofs.report.fascn.digits_in.Statement.{statement}
 use Rattle.vectors.proofs.report.fascn.digits_in.Tie as tie
 

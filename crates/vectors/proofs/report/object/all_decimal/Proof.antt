@@ -6,8 +6,8 @@ use native.Mathlib.Omega.{arith}
 use borrow.Author.Needs.{needs}
 use lib.Dec.{ltb}
 use lib.ListN.{length, getD}
-use Rattle.card.specs.Lists.{all}
-use Rattle.card.proofs.ListsLaws.{all-more}
+use Rattle.common.specs.Lists.{all}
+use Rattle.common.proofs.ListsLaws.{all-more}
 use Rattle.vectors.specs.Line.{decimalPair}
 use Rattle.vectors.proofs.report.object.all_decimal.Statement.{statement}
 use Rattle.vectors.proofs.report.object.all_decimal.Tie as tie

@@ -1,0 +1,15 @@
+-- The laws of what all crates share.
+-- TestLaws: tests
+pub mod TestLaws
+-- ListsLaws: lists and tests by index, and what a loop adds to them
+pub mod ListsLaws
+-- StoreLaws: a list stored in another
+pub mod StoreLaws
+-- PlaceLaws: the bytes before the first 0A
+pub mod PlaceLaws
+-- NumberLaws: numbers and their digits to a base
+pub mod NumberLaws
+-- XorLaws: the exclusive or
+pub mod XorLaws
+-- ConditionLaws: lists of conditions with their numbers
+pub mod ConditionLaws

@@ -1,0 +1,157 @@
+-- Lists and tests over 0, 1, .., n - 1: what each turn of a loop adds, what the loop has at its end, and what holds at each place.
+-- Assumes nothing.
+use mathlib.Core.Path.{_≡_, refl, sym, ap, ap₂, _∙_}
+use mathlib.Core.Bool.{Bool, true, _&&_, and-eq-true-iff}
+use mathlib.Core.List.{List, [], _∷_, _++_, append-nil, append-assoc}
+use mathlib.Core.Logic.{⊎-elim}
+use Prim.Native.Nat.{ℕ, zero, suc, _+_, _-_, _≤_, _<_}
+use native.Mathlib.Nat.{not-suc-le-zero, le-of-suc-le-suc, le-step, le-refl, eq-or-lt-of-le, add-zero, add-suc, zero-add}
+use native.Mathlib.Numerals.{add-one}
+use native.Mathlib.Omega.{arith}
+use lib.ListN.{length, getD, set, take, drop, length-append, length-drop, take-append-drop, List·getD-append, length-take}
+use lib.Seq.{drop-cons, drop-length, length-take-le, append-snoc, set-at, getD-at, ext-getD, take-at, drop-at, drop-drop, take-append-seam, drop-append-add, getD-append-add, getD-drop}
+use Rattle.common.specs.Lists.{listOf, all, written, overFront, overPlaces}
+
+-- ---- tests
+
+pub all-more : (f : ℕ → Bool) (i : ℕ) {x r : Bool} → x ≡ all i f → r ≡ f i → x && r ≡ all (i + 1) f
+unfolding all
+all-more f i p q = rw (add-one, p, q)
+
+-- a test over all numbers below n, at one of them
+pub all-at : (f : ℕ → Bool) (n : ℕ) → all n f ≡ true → (i : ℕ) → i < n → f i ≡ true
+unfolding all
+all-at f zero p i h = absurd (not-suc-le-zero h)
+all-at f (suc n) p i h =
+    let b = and-eq-true-iff (all n f) (f n) .0 p in
+    ⊎-elim (λ e. ap f e ∙ b .1) (λ l. all-at f n (b .0) i l) (eq-or-lt-of-le (le-of-suc-le-suc h))
+
+-- a test that passes at each number below n
+pub all-of : (f : ℕ → Bool) (n : ℕ) → ((i : ℕ) → i < n → f i ≡ true) → all n f ≡ true
+unfolding all
+all-of f zero h = refl
+all-of f (suc n) h = rw (all-of f n (λ i l. h i (le-step l)), h n (le-refl (suc n)))
+
+pub all-ext : (n : ℕ) {f g : ℕ → Bool} → ((i : ℕ) → i < n → f i ≡ g i) → all n f ≡ all n g
+unfolding all
+all-ext zero h = refl
+all-ext (suc n) h = ap₂ _&&_ (all-ext n (λ i l. h i (le-step l))) (h n (le-refl (suc n)))
+
+-- ---- lists
+
+pub length-listOf : (n : ℕ) (f : ℕ → ℕ) → length (listOf n f) ≡ n
+unfolding listOf
+length-listOf zero f = refl
+length-listOf (suc n) f = rw (length-append, length-listOf n f) (add-one n)
+
+pub getD-listOf : (n : ℕ) (f : ℕ → ℕ) (i : ℕ) → i < n → getD (listOf n f) i 0 ≡ f i
+unfolding listOf
+getD-listOf zero f i h = absurd (not-suc-le-zero h)
+getD-listOf (suc n) f i h =
+    ⊎-elim (λ e. rw e (getD-at (listOf n f) (f n) [] 0 n (length-listOf n f)))
+    (λ l. List·getD-append (listOf n f) (f n ∷ []) 0 i (rw (length-listOf n f) l) ∙ getD-listOf n f i l)
+    (eq-or-lt-of-le (le-of-suc-le-suc h))
+
+pub listOf-ext : (n : ℕ) {f g : ℕ → ℕ} → ((i : ℕ) → i < n → f i ≡ g i) → listOf n f ≡ listOf n g
+unfolding listOf
+listOf-ext zero h = refl
+listOf-ext (suc n) h = ap₂ (λ (a : List ℕ) (b : ℕ). a ++ (b ∷ [])) (listOf-ext n (λ i l. h i (le-step l))) (h n (le-refl (suc n)))
+
+-- a list of n numbers that are those of f
+pub listOf-is : (n : ℕ) (f : ℕ → ℕ) (l : List ℕ) → length l ≡ n → ((i : ℕ) → i < n → f i ≡ getD l i 0) → listOf n f ≡ l
+listOf-is n f l e h =
+    ext-getD 0 (listOf n f) l (length-listOf n f ∙ sym e)
+    (λ i b. let b′ : i < n = rw (length-listOf n f) at b in getD-listOf n f i b′ ∙ h i b′)
+
+pub listOf-append : (n m : ℕ) (f : ℕ → ℕ) → listOf (n + m) f ≡ listOf n f ++ listOf m (λ j. f (n + j))
+unfolding listOf
+listOf-append n zero f = rw add-zero (sym (append-nil (listOf n f)))
+listOf-append n (suc m) f = rw (add-suc, listOf-append n m f, append-assoc)
+
+-- ---- a list that is written anew from a place on
+
+pub written-none : (l : List ℕ) (at : ℕ) (f : ℕ → ℕ) → written l at 0 f ≡ l
+unfolding written listOf
+written-none l at f = rw (add-zero, append-nil) (take-append-drop at l)
+
+length-before : (l : List ℕ) (at n : ℕ) (f : ℕ → ℕ) → at + n ≤ length l → length (take at l ++ listOf n f) ≡ at + n
+length-before l at n f h = rw (length-append, length-take-le at l (omega arith), length-listOf)
+
+pub written-more : (l : List ℕ) (at n : ℕ) (f : ℕ → ℕ) {m : List ℕ} {x : ℕ} → at + n < length l → m ≡ written l at n f → x ≡ f n
+    → set m (at + n) x ≡ written l at (n + 1) f
+unfolding written listOf
+written-more l at n f {m} {x} h p q =
+    let overFront = take at l ++ listOf n f in
+    let e : m ≡ overFront ++ (getD l (at + n) 0 ∷ drop (suc (at + n)) l) = p ∙ ap (λ (t : List ℕ). overFront ++ t) (drop-cons l (at + n) 0 h) in
+    rw (e, q, set-at overFront (getD l (at + n) 0) (drop (suc (at + n)) l) (f n) (at + n) (length-before l at n f (omega arith)), add-one, add-suc, ← append-assoc)
+    (sym (append-snoc overFront (f n) (drop (suc (at + n)) l)))
+
+pub length-written : (l : List ℕ) (at n : ℕ) (f : ℕ → ℕ) → at + n ≤ length l → length (written l at n f) ≡ length l
+unfolding written
+length-written l at n f h = rw (length-append, length-before l at n f h, length-drop) (omega arith)
+
+pub written-ext : (l : List ℕ) (at n : ℕ) {f g : ℕ → ℕ} → ((i : ℕ) → i < n → f i ≡ g i) → written l at n f ≡ written l at n g
+unfolding written
+written-ext l at n h = ap (λ (t : List ℕ). take at l ++ t ++ drop (at + n) l) (listOf-ext n h)
+
+-- the first n places are written, and then the next m
+pub written-on : (l : List ℕ) (n m : ℕ) (f : ℕ → ℕ) → written (written l 0 n f) n m (λ j. f (n + j)) ≡ written l 0 (n + m) f
+unfolding written
+written-on l n m f =
+    rw (
+      zero-add n,
+      zero-add (n + m),
+      ← drop-drop m n (listOf n f ++ drop n l),
+      take-at (listOf n f) (drop n l) n (length-listOf n f),
+      drop-at (listOf n f) (drop n l) n (length-listOf n f),
+      drop-drop m n l,
+      listOf-append n m f,
+    )
+
+-- a loop that writes a list from its first place on: a turn, and the end
+pub front-more : (l : List ℕ) (n : ℕ) (f : ℕ → ℕ) {m : List ℕ} {x : ℕ} → n < length l → m ≡ written l 0 n f → x ≡ f n → set m n x ≡ written l 0 (n + 1) f
+front-more l n f h p q = rw zero-add at (written-more l 0 n f (rw zero-add h) p q)
+
+pub front-end : (l : List ℕ) (n : ℕ) (f : ℕ → ℕ) {m : List ℕ} → n ≡ length l → m ≡ written l 0 n f → m ≡ listOf (length l) f
+unfolding written
+front-end l n f e p = p ∙ rw (zero-add, e, drop-length, append-nil)
+
+-- ---- a list stored in another
+
+-- a list stored from the first place on stands in front
+pub over-first : (d s : List ℕ) → overPlaces d 0 s ≡ overFront s d
+unfolding overFront overPlaces
+over-first d s = rw zero-add
+
+-- one stored right after the front makes the front longer
+pub over-next : (p s d : List ℕ) {l : List ℕ} {n : ℕ} → l ≡ overFront p d → n ≡ length p → overPlaces l n s ≡ overFront (p ++ s) d
+unfolding overFront overPlaces
+over-next p s d e k = rw (e, k, take-append-seam, drop-append-add, drop-drop, length-append)
+
+-- a list written whole is stored
+pub written-over : (d s : List ℕ) (at : ℕ) → written d at (length s) (λ j. getD s (0 + j) 0) ≡ overPlaces d at s
+unfolding written overPlaces
+written-over d s at =
+    ap (λ (t : List ℕ). take at d ++ t ++ drop (at + length s) d)
+    (listOf-is (length s) (λ j. getD s (0 + j) 0) s refl (λ i b. ap (λ (j : ℕ). getD s j 0) (zero-add i)))
+
+-- a list with another over its places, or over its front, is as long as it was
+pub length-over : (l s : List ℕ) (at : ℕ) → at + length s ≤ length l → length (overPlaces l at s) ≡ length l
+unfolding overPlaces
+length-over l s at h = simp (length-append, length-take, length-drop) (omega arith)
+
+pub length-front : (s l : List ℕ) → length s ≤ length l → length (overFront s l) ≡ length l
+unfolding overFront
+length-front s l h = rw (length-append, length-drop) (omega arith)
+
+-- its first places are those of the other
+pub front-at : (s l : List ℕ) (i : ℕ) → i < length s → getD (overFront s l) i 0 ≡ getD s i 0
+unfolding overFront
+front-at s l i h = List·getD-append s (drop (length s) l) 0 i h
+
+-- every other place is as it was
+pub front-after : (s l : List ℕ) (i : ℕ) → length s ≤ i → getD (overFront s l) i 0 ≡ getD l i 0
+unfolding overFront
+front-after s l i h =
+    let e : i ≡ length s + (i - length s) = omega arith in
+    rw e (getD-append-add s (drop (length s) l) (i - length s) 0 ∙ getD-drop (length s) l (i - length s) 0)

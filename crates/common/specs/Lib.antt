@@ -1,0 +1,7 @@
+-- What the contracts of all crates share.
+-- Lists: lists, tests and numbers by index
+pub mod Lists
+-- Refusal: the first condition of a list that fits
+pub mod Refusal
+-- SliceCode: how the code goes about looking for a byte; no public contract cites it
+pub mod SliceCode

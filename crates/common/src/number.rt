@@ -1,0 +1,11 @@
+// Numbers.
+ghost use mathlib.Core.Path.{_≡_};
+ghost use Prim.Native.Nat.{_≤_, min};
+
+// The lesser of the two.
+pub fn least(a: usize, b: usize) -> usize
+    ensures is { λ r. ⌜ r ≡ min a b ⌝ }
+    ensures inside { λ r. ⌜ r ≤ b ⌝ }
+{
+    if a < b { a } else { b }
+}

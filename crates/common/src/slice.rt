@@ -1,0 +1,82 @@
+// What all crates do with slices of bytes: whether two are equal, where a byte stands, and bytes stored from a place on.
+ghost use mathlib.Core.Path.{_≡_};
+ghost use mathlib.Core.Bool.{not};
+ghost use Prim.Native.Nat.{_+_, _≤_};
+ghost use lib.Dec.{eqb};
+ghost use lib.ListN.{length, getD, drop};
+ghost use Rattle.bytes.specs.Bytes.{indexOf};
+ghost use Rattle.common.specs.Lists.{all, sameBytes, overPlacesWhere};
+ghost use Rattle.common.specs.SliceCode.{blockSize};
+
+// All bytes are equal, and there are as many. Every byte is looked at: there is no early exit.
+pub fn same(a: &[u8], b: &[u8]) -> bool
+    ensures { λ r. ⌜ r ≡ sameBytes (now (a .entry)) (now (b .entry)) ⌝ }
+{
+    if a.len() != b.len() {
+        return false;
+    }
+    let mut same = true;
+    for i in 0..a.len() {
+        same = same & (a[i] == b[i]);
+    }
+    same
+}
+
+// The bytes of a block, in which a byte is looked for at once; `blockSize` in the definitions.
+const BLOCK: usize = 32;
+
+// None of the bytes of the block from place `at` on is x. Every one is looked at: there is no early exit.
+fn none_of(s: &[u8], at: usize, x: u8) -> bool
+    requires { ⌜ at + blockSize ≤ length (now s) ⌝ }
+    ensures { λ r. ⌜ r ≡ all blockSize (λ j. not (eqb (getD (now (s .entry)) (at + j) 0) x)) ⌝ }
+{
+    let mut absent = true;
+    for j in 0..BLOCK {
+        absent = absent & (s[at + j] != x);
+    }
+    absent
+}
+
+// A place from `from` on, and no x stands between the two: the blocks without an x are passed.
+fn past_blocks(s: &[u8], from: usize, x: u8) -> usize
+    requires { ⌜ from ≤ length (now s) ⌝ }
+    ensures is { λ r. ⌜ from + indexOf x (drop from (now (s .entry))) ≡ r + indexOf x (drop r (now (s .entry))) ⌝ }
+    ensures inside { λ r. ⌜ r ≤ length (now (s .entry)) ⌝ }
+{
+    let mut i = from;
+    while i < s.len() {
+        if s.len() - i < BLOCK {
+            return i;
+        }
+        if !none_of(s, i, x) {
+            return i;
+        }
+        i += BLOCK;
+    }
+    i
+}
+
+// The place of the first x in s from place `from` on; the end where there is none.
+pub fn find(s: &[u8], from: usize, x: u8) -> usize
+    ensures is { λ r. ⌜ r ≡ from + indexOf x (drop from (now (s .entry))) ⌝ }
+    ensures inside { λ r. ⌜ (from ≤ length (now (s .entry)) → r ≤ length (now (s .entry))) ⌝ }
+{
+    if s.len() < from {
+        return from;
+    }
+    let i = past_blocks(s, from, x);
+    bytes::scan::find(s, i, s.len(), x)
+}
+
+// The bytes s stored in out from place `at` on, where all of them fit; out as it was where they do not.
+pub fn store(out: &mut [u8], at: usize, s: &[u8])
+    ensures { λ r. ⌜ now (out .exit) ≡ overPlacesWhere (now (out .entry)) at (now (s .entry)) ⌝ }
+{
+    if out.len() < at {
+        return;
+    }
+    if out.len() - at < s.len() {
+        return;
+    }
+    bytes::copy(s, &mut out[at..]);
+}
