@@ -1,29 +1,53 @@
--- What was fed to the program, what is gathered to be written, and what is printed at the end.
+-- What was fed to the program, whether it goes on, and what is printed at the end.
 -- Assumes nothing.
 use mathlib.Core.Path.{_≡_}
-use mathlib.Core.Bool.{cond}
+use mathlib.Core.Bool.{Bool, true, _&&_}
 use mathlib.Core.List.{List, _++_}
-use Prim.Native.Nat.{ℕ, _-_}
-use lib.Dec.{leb}
-use lib.ListN.{take}
-use Rattle.gate_lines.specs.Gate.{textSize, fresh}
+use Prim.Native.Nat.{ℕ, _-_, _*_, _^_, _≤_}
+use lib.IntN.{ℤ, pos}
+use lib.Signed.{ltZ}
+use lib.ListN.{length, take}
+use Rattle.gate_lines.specs.Gate.{fresh, endText}
 use Rattle.gate_lines.specs.Run.{since, endFor}
-use Rattle.gate_lines.specs.Input.{linesIn, InputState, inputAfter}
+use Rattle.gate_lines.specs.Input.{linesIn, InputState, inputStart, inputAfter, lastGate, lastText}
+use Rattle.gate_stream.specs.declared.Ending.{Ending}
+use Rattle.gate_stream.specs.declared.Ending.the-variants.{Ended, Unread, Untaken}
 
--- The second state is what the first becomes by some bytes: those that were read.
-pub record Fed (m n : InputState) : Type 0 where
+-- How many bytes are read at once.
+abbrev pub readSize : ℕ
+readSize = 16384
+
+-- The most that one byte of the input prints: `(refused 255)` and 0A, where the byte is the 0A of a line. And the room for what a block prints.
+abbrev pub replyMost : ℕ
+replyMost = 14
+
+abbrev pub outSize : ℕ
+outSize = readSize * replyMost
+
+-- The program goes on: the read gave bytes, and standard output took what they print. A read gives 0 at the end of the input, and a number below where it fails.
+unfoldable pub goesOn : ℤ → Bool → Bool
+goesOn got taken = ltZ (pos 0) got && taken
+
+unfoldable pub readFails : ℤ → Bool
+readFails got = ltZ got (pos 0)
+
+-- The second state is what the first becomes by some bytes: those that were read. Where the program would still go on, so many bytes were read that no run
+-- comes to it.
+pub record Fed (m n : InputState) (more : Bool) : Type 0 where
   pub bytes : List ℕ
   pub is : n ≡ inputAfter m bytes
+  pub all : more ≡ true → 2 ^ 64 - 1 ≤ length bytes
 
--- How much text is gathered before it is written.
-abbrev pub gatherSize : ℕ
-gatherSize = 4096
+-- What is printed at the end of the input: the text of a last line without 0A, and the stamp or its refusal.
+unfoldable pub endingText : InputState → List ℕ
+endingText m = lastText m ++ endText (lastGate m .session)
 
--- What is gathered once a text has come: it follows what was gathered before, or that was written and it stands alone.
-unfoldable pub gatheredAfter : List ℕ → ℕ → List ℕ → List ℕ
-gatheredAfter out gathered text = cond (leb gathered (gatherSize - textSize)) (take gathered out ++ text) text
-
--- What is printed at the end is demand 3's, for the lines of some bytes: those that were read. The object buffer had any content at first.
-pub record EndsFor (object text : List ℕ) : Type 0 where
+-- The end of the program. What is printed then is demand 3's, for the lines of some bytes: those that were read. The object buffer had any content at first.
+pub record EndsWith (object text : List ℕ) : Type 0 where
   pub bytes : List ℕ
-  pub is : text ≡ endFor (since (fresh object) (linesIn bytes))
+  pub is : text ≡ lastText (inputAfter (inputStart (fresh object)) bytes) ++ endFor (since (fresh object) (linesIn bytes))
+
+abbrev pub EndsFor : List ℕ → List ℕ → Ending → Type 0
+EndsFor object out (Ended n) = EndsWith object (take n out)
+EndsFor object out Unread = Unit
+EndsFor object out Untaken = Unit

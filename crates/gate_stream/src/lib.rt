@@ -1,61 +1,77 @@
 // The gate program on a file descriptor: its bytes are read in blocks to the end and handed to the crate gate_lines, and what that prints goes to standard output.
 //
-// No contract can say what is read or written. What these contracts say is of the program's state: whatever was read, it is the state that the definitions give
-// for those bytes.
+// No contract can say what the system reads or writes. What these contracts say: the bytes that are fed are the first of the buffer that was read into, as many as
+// the read gave; what is handed on to be written is the text of those bytes, whole; the program goes on as long as a read gives bytes and standard output takes
+// them; and what is printed at the end is the text of the definitions. `one_block` alone reads, `write_out` and `complain` alone write.
 use common::slice;
 use gate_lines::input::HELD;
 use gate_lines::reply;
 use gate_lines::run;
 use gate_lines::state::CARDS;
 use gate_lines::state::State;
-use gate_lines::state::TEXT;
 use gate_lines::state::Text;
 use session::figures::OBJECT;
 ghost use mathlib.Core.Path.{_≡_};
-ghost use mathlib.Core.Bool.{true};
-ghost use Prim.Native.Nat.{_+_, _≤_, _<_};
-ghost use lib.ListN.{length, take};
-ghost use Rattle.gate_lines.specs.Gate.{gateOf, textIn, TextFits};
-ghost use Rattle.gate_lines.specs.Input.{inputStateOf, inputAfter, lastGate, partFrom};
-ghost use Rattle.gate_stream.specs.Stream.{Fed, gatherSize, gatheredAfter, EndsFor};
+ghost use mathlib.Core.Bool.{_&&_};
+ghost use Prim.Native.Nat.{_+_, _-_, _*_, _≤_, _<_};
+ghost use lib.ListN.{length, take, replicate};
+ghost use Rattle.common.specs.Lists.{overFront, overPlaces};
+ghost use Rattle.io.specs.Counts.{clamped};
+ghost use Rattle.session.specs.Tables.{objectSize};
+ghost use Rattle.gate_lines.specs.Gate.{textIn, TextFits};
+ghost use Rattle.gate_lines.specs.Input.{inputStateOf, inputAfter, textOfInput, partFrom};
+ghost use Rattle.gate_stream.specs.Stream.{readSize, replyMost, outSize, goesOn, readFails, Fed, endingText, EndsFor};
 
-// How much text is gathered before it is written; `gatherSize` in the definitions.
-const GATHERED: usize = 4096;
+// How many bytes are read at once, the most bytes that a byte of the input prints, and the room for what a block prints; `readSize`, `replyMost` and
+// `outSize` in the definitions.
+pub const READ: usize = 16384;
 
-// The program at some place of a block: its state, how many bytes of an unfinished line are held, how far the block is used, how many bytes of text are
-// gathered, and whether it goes on: standard output takes what is written to it, and the input has not ended.
+const REPLY_MOST: usize = 14;
+
+pub const OUT: usize = READ * REPLY_MOST;
+
+// The program at some place of a block: its state, how many bytes of an unfinished line are held, how far the block is used, and how many bytes of text
+// stand in the buffer for it.
 struct BlockState {
     state: State,
     held: usize,
     used: usize,
     gathered: usize,
-    more: bool,
 }
 
-// How many bytes of text are gathered, and whether standard output took what was written.
-struct Gathered {
+// The program between two blocks: its state, how many bytes of an unfinished line are held, what the last read gave, how many bytes were handed on to be
+// written after it, and whether standard output took them.
+struct InputRun {
+    state: State,
+    held: usize,
+    got: isize,
+    wrote: usize,
+    taken: bool,
+}
+
+// How many bytes were handed on to be written, and whether standard output took them.
+struct Wrote {
     count: usize,
     taken: bool,
 }
 
-// The text gathered after what was gathered before; that is written first where the two might not fit.
-fn gather(out: &mut [u8], gathered: usize, text: Text) -> Gathered
-    requires { ⌜ (gathered ≤ length (now out)) × (length (now out) ≡ gatherSize) × TextFits text 0 ⌝ }
-    ensures holds { λ r. ⌜ take (r .count) (now (out .exit)) ≡ gatheredAfter (now (out .entry)) gathered (textIn text) ⌝ }
-    ensures inside { λ r. ⌜ r .count ≤ gatherSize ⌝ }
+// How the program ended: with the text of the end, so many bytes; by a read that failed; by a write that failed.
+pub enum Ending {
+    Ended(usize),
+    Unread,
+    Untaken,
+}
+
+// A text, stored in out from place `at` on; the place after it.
+fn add(out: &mut [u8], at: usize, text: Text) -> usize
+    requires { ⌜ TextFits text 0 × (at + text .len ≤ length (now out)) ⌝ }
+    ensures is { λ r. ⌜ r ≡ at + length (textIn text) ⌝ }
+    ensures stores { λ r. ⌜ now (out .exit) ≡ overPlaces (now (out .entry)) at (textIn text) ⌝ }
 {
     let bytes = text.bytes;
     let len = text.len;
-    if gathered <= out.len() - TEXT {
-        slice::store(out, gathered, &bytes[..len]);
-        return Gathered {
-            count: gathered + len,
-            taken: true,
-        };
-    }
-    let taken = io::write_all(1, &out[..gathered]);
-    slice::store(out, 0, &bytes[..len]);
-    Gathered { count: len, taken }
+    slice::store(out, at, &bytes[..len]);
+    at + len
 }
 
 // The next part of a block: one line, where it ends in the block.
@@ -67,26 +83,26 @@ fn one_line(
     out: &mut [u8],
     block: &[u8],
 ) -> BlockState
-    requires { ⌜ (at .gathered ≤ length (now out)) × (length (now out) ≡ gatherSize) ⌝ }
+    requires { ⌜ (at .used < length (now block)) × (at .gathered + replyMost * (length (now block) - at .used) ≤ length (now out)) ⌝ }
     ensures state { λ r. ⌜ inputStateOf (r .state) (r .held) (now (cards .exit)) (now (object .exit)) (now (line .exit)) ≡ inputAfter (inputStateOf (at .state) (at .held) (now (cards .entry)) (now (object .entry)) (now (line .entry))) (partFrom (now (block .entry)) (at .used) (r .used)) ⌝ }
-    ensures onward { λ r. ⌜ (at .used < length (now (block .entry)) → (at .used < r .used) × (r .used ≤ length (now (block .entry)))) ⌝ }
-    ensures gathered { λ r. ⌜ r .gathered ≤ gatherSize ⌝ }
+    ensures prints { λ r. ⌜ now (out .exit) ≡ overPlaces (now (out .entry)) (at .gathered) (textOfInput (inputStateOf (at .state) (at .held) (now (cards .entry)) (now (object .entry)) (now (line .entry))) (partFrom (now (block .entry)) (at .used) (r .used))) ⌝ }
+    ensures gathered { λ r. ⌜ r .gathered ≡ at .gathered + length (textOfInput (inputStateOf (at .state) (at .held) (now (cards .entry)) (now (object .entry)) (now (line .entry))) (partFrom (now (block .entry)) (at .used) (r .used))) ⌝ }
+    ensures onward { λ r. ⌜ (at .used < r .used) × (r .used ≤ length (now (block .entry))) ⌝ }
 {
     let state = at.state;
     let fed = state.feed_line(at.held, cards, object, line, block, at.used);
     let text = fed.text;
-    let next = gather(out, at.gathered, text);
+    let gathered = add(out, at.gathered, text);
     let state = fed.state;
     BlockState {
         state,
         held: fed.held,
         used: fed.used,
-        gathered: next.count,
-        more: next.taken,
+        gathered,
     }
 }
 
-// The whole of a block, or the part of it before standard output took no more.
+// The whole of a block; what it prints stands at the front of out.
 fn run_block(
     start: BlockState,
     cards: &mut [u64; CARDS],
@@ -95,132 +111,181 @@ fn run_block(
     out: &mut [u8],
     block: &[u8],
 ) -> BlockState
-    requires { ⌜ (start .used ≡ 0) × (start .gathered ≤ length (now out)) × (length (now out) ≡ gatherSize) ⌝ }
-    ensures state { λ r. ⌜ inputStateOf (r .state) (r .held) (now (cards .exit)) (now (object .exit)) (now (line .exit)) ≡ inputAfter (inputStateOf (start .state) (start .held) (now (cards .entry)) (now (object .entry)) (now (line .entry))) (take (r .used) (now (block .entry))) ⌝ }
-    ensures whole { λ r. ⌜ (r .more ≡ true → r .used ≡ length (now (block .entry))) ⌝ }
-    ensures gathered { λ r. ⌜ r .gathered ≤ gatherSize ⌝ }
+    requires { ⌜ (start .used ≡ 0) × (start .gathered ≡ 0) × (length (now out) ≡ outSize) × (length (now block) ≤ readSize) ⌝ }
+    ensures state { λ r. ⌜ inputStateOf (r .state) (r .held) (now (cards .exit)) (now (object .exit)) (now (line .exit)) ≡ inputAfter (inputStateOf (start .state) (start .held) (now (cards .entry)) (now (object .entry)) (now (line .entry))) (now (block .entry)) ⌝ }
+    ensures prints { λ r. ⌜ now (out .exit) ≡ overFront (textOfInput (inputStateOf (start .state) (start .held) (now (cards .entry)) (now (object .entry)) (now (line .entry))) (now (block .entry))) (now (out .entry)) ⌝ }
+    ensures gathered { λ r. ⌜ (r .gathered ≡ length (textOfInput (inputStateOf (start .state) (start .held) (now (cards .entry)) (now (object .entry)) (now (line .entry))) (now (block .entry)))) × (r .gathered ≤ outSize) ⌝ }
 {
     let mut at = start;
-    while (at.used < block.len()) & at.more {
+    while at.used < block.len() {
         at = one_line(at, cards, object, line, out, block);
     }
     at
 }
 
-// What is gathered is written.
-fn write_gathered(at: BlockState, out: &[u8]) -> BlockState
-    requires { ⌜ at .gathered ≤ length (now out) ⌝ }
-    ensures { λ r. ⌜ (r .state ≡ at .state) × (r .held ≡ at .held) × (r .gathered ≡ 0) ⌝ }
+// The first n bytes of out, handed on to standard output.
+fn write_out(out: &[u8], n: usize) -> Wrote
+    requires { ⌜ n ≤ length (now out) ⌝ }
+    ensures { λ r. ⌜ r .count ≡ n ⌝ }
 {
-    let gathered = at.gathered;
-    let taken = io::write_all(1, &out[..gathered]);
-    let mut done = at;
-    done.gathered = 0;
-    done.more = at.more & taken;
-    done
+    let taken = io::write_all(1, &out[..n]);
+    Wrote { count: n, taken }
 }
 
-// One block that is read. What is gathered is written then, so that whoever sent a line has its answer before the next is waited for.
+// One block that is read. What it prints is written then, so that whoever sent a line has its answer before the next is waited for.
 fn one_block(
     fd: i32,
-    start: BlockState,
+    start: InputRun,
     cards: &mut [u64; CARDS],
     object: &mut [u8],
     line: &mut [u8; HELD],
+    input: &mut [u8],
     out: &mut [u8],
-) -> BlockState
-    requires { ⌜ (start .gathered ≤ length (now out)) × (length (now out) ≡ gatherSize) ⌝ }
-    ensures state { λ r. ⌜ Fed (inputStateOf (start .state) (start .held) (now (cards .entry)) (now (object .entry)) (now (line .entry))) (inputStateOf (r .state) (r .held) (now (cards .exit)) (now (object .exit)) (now (line .exit))) ⌝ }
-    ensures gathered { λ r. ⌜ r .gathered ≡ 0 ⌝ }
+) -> InputRun
+    requires { ⌜ (length (now input) ≡ readSize) × (length (now out) ≡ outSize) ⌝ }
+    ensures state { λ r. ⌜ inputStateOf (r .state) (r .held) (now (cards .exit)) (now (object .exit)) (now (line .exit)) ≡ inputAfter (inputStateOf (start .state) (start .held) (now (cards .entry)) (now (object .entry)) (now (line .entry))) (take (clamped (r .got) readSize) (now (input .exit))) ⌝ }
+    ensures prints { λ r. ⌜ now (out .exit) ≡ overFront (textOfInput (inputStateOf (start .state) (start .held) (now (cards .entry)) (now (object .entry)) (now (line .entry))) (take (clamped (r .got) readSize) (now (input .exit)))) (now (out .entry)) ⌝ }
+    ensures written { λ r. ⌜ r .wrote ≡ length (textOfInput (inputStateOf (start .state) (start .held) (now (cards .entry)) (now (object .entry)) (now (line .entry))) (take (clamped (r .got) readSize) (now (input .exit)))) ⌝ }
 {
-    let mut input = io::large_buffer();
-    let got = libc::read(fd, &mut input);
-    let n = io::count(got, &input);
-    let mut at = start;
-    at.used = 0;
-    at.more = 0 < n;
+    let got = libc::read(fd, input);
+    let n = io::count(got, input);
+    let state = start.state;
+    let at = BlockState {
+        state,
+        held: start.held,
+        used: 0,
+        gathered: 0,
+    };
     let done = run_block(at, cards, object, line, out, &input[..n]);
-    write_gathered(done, out)
+    let wrote = write_out(out, done.gathered);
+    let state = done.state;
+    InputRun {
+        state,
+        held: done.held,
+        got,
+        wrote: wrote.count,
+        taken: wrote.taken,
+    }
+}
+
+// Whether the program goes on: the read gave bytes, and standard output took what they print.
+fn goes_on(got: isize, taken: bool) -> bool
+    ensures { λ r. ⌜ r ≡ goesOn got taken ⌝ }
+{
+    (got > 0) & taken
+}
+
+// Whether the read failed.
+fn read_fails(got: isize) -> bool
+    ensures { λ r. ⌜ r ≡ readFails got ⌝ }
+{
+    got < 0
 }
 
 // Blocks to the end of the input. A proved loop has to end, and nothing says that the input does: the turns are counted down from a number that no run uses up.
 fn run_input(
     fd: i32,
-    start: BlockState,
+    start: InputRun,
     cards: &mut [u64; CARDS],
     object: &mut [u8],
     line: &mut [u8; HELD],
+    input: &mut [u8],
     out: &mut [u8],
-) -> BlockState
-    requires { ⌜ (start .gathered ≤ length (now out)) × (length (now out) ≡ gatherSize) ⌝ }
-    ensures state { λ r. ⌜ Fed (inputStateOf (start .state) (start .held) (now (cards .entry)) (now (object .entry)) (now (line .entry))) (inputStateOf (r .state) (r .held) (now (cards .exit)) (now (object .exit)) (now (line .exit))) ⌝ }
+) -> InputRun
+    requires { ⌜ (length (now input) ≡ readSize) × (length (now out) ≡ outSize) ⌝ }
+    ensures { λ r. ⌜ Fed (inputStateOf (start .state) (start .held) (now (cards .entry)) (now (object .entry)) (now (line .entry))) (inputStateOf (r .state) (r .held) (now (cards .exit)) (now (object .exit)) (now (line .exit))) (goesOn (r .got) (r .taken)) ⌝ }
 {
     let mut at = start;
     let mut turns = u64::MAX;
-    while (turns > 0) & at.more {
+    while (turns > 0) & goes_on(at.got, at.taken) {
         turns -= 1;
-        at = one_block(fd, at, cards, object, line, out);
+        at = one_block(fd, at, cards, object, line, input, out);
     }
     at
 }
 
-// A text, written at once.
-fn print(text: Text)
-    requires { ⌜ TextFits text 0 ⌝ }
-{
-    let bytes = text.bytes;
-    let len = text.len;
-    io::write_all(1, &bytes[..len]);
-}
-
-// The end of the input: a last line without 0A.
-fn last_line(
-    at: BlockState,
+// The end of the input: what a last line without 0A prints, and the stamp or its refusal, at the front of out; how many bytes they are.
+fn last_text(
+    at: InputRun,
     cards: &mut [u64; CARDS],
     object: &mut [u8],
     line: &[u8; HELD],
-) -> State
-    ensures { λ r. ⌜ gateOf r (now (cards .exit)) (now (object .exit)) ≡ lastGate (inputStateOf (at .state) (at .held) (now (cards .entry)) (now (object .entry)) (now (line .entry))) ⌝ }
+    out: &mut [u8],
+) -> usize
+    requires { ⌜ length (now out) ≡ outSize ⌝ }
+    ensures is { λ r. ⌜ r ≡ length (endingText (inputStateOf (at .state) (at .held) (now (cards .entry)) (now (object .entry)) (now (line .entry)))) ⌝ }
+    ensures prints { λ r. ⌜ now (out .exit) ≡ overFront (endingText (inputStateOf (at .state) (at .held) (now (cards .entry)) (now (object .entry)) (now (line .entry)))) (now (out .entry)) ⌝ }
+    ensures inside { λ r. ⌜ r ≤ outSize ⌝ }
 {
     let state = at.state;
     let last = state.last(at.held, cards, object, line);
     let text = last.text;
-    print(text);
-    last.state
+    let n = add(out, 0, text);
+    let state = last.state;
+    let session = state.session;
+    let stamp = reply::end_text(session);
+    add(out, n, stamp)
 }
 
-// The whole input; the text that is printed at its end.
+// A line on standard error.
+fn complain(text: &[u8]) {
+    io::write_all(2, text);
+}
+
+// Why there is no stamp.
+fn failed(end: Ending) -> Ending
+    ensures { λ r. ⌜ r ≡ end ⌝ }
+{
+    match end {
+        Ending::Ended(_) => {}
+        Ending::Unread => complain(b"gate: the input cannot be read, so there is no stamp\n"),
+        Ending::Untaken => complain(b"gate: standard output takes no more, so there is no stamp\n"),
+    }
+    end
+}
+
+// The whole input, and the text of its end; where a read or a write failed there is none.
 fn run_whole(
     fd: i32,
     cards: &mut [u64; CARDS],
     object: &mut [u8],
     line: &mut [u8; HELD],
+    input: &mut [u8],
     out: &mut [u8],
-) -> Text
-    requires { ⌜ length (now out) ≡ gatherSize ⌝ }
-    ensures for_every_list { λ r. ⌜ EndsFor (now (object .entry)) (textIn r) ⌝ }
-    ensures fits { λ r. ⌜ TextFits r 0 ⌝ }
+) -> Ending
+    requires { ⌜ (length (now object) ≡ objectSize) × (length (now input) ≡ readSize) × (length (now out) ≡ outSize) ⌝ }
+    ensures for_every_list { λ r. ⌜ EndsFor (now (object .entry)) (now (out .exit)) r ⌝ }
 {
     let state = run::start();
-    let start = BlockState {
+    let start = InputRun {
         state,
         held: 0,
-        used: 0,
-        gathered: 0,
-        more: true,
+        got: 1,
+        wrote: 0,
+        taken: true,
     };
-    let end = run_input(fd, start, cards, object, line, out);
-    let done = last_line(end, cards, object, line);
-    let session = done.session;
-    reply::end_text(session)
+    let end = run_input(fd, start, cards, object, line, input, out);
+    if read_fails(end.got) {
+        return Ending::Unread;
+    }
+    if !end.taken {
+        return Ending::Untaken;
+    }
+    let n = last_text(end, cards, object, line, out);
+    let wrote = write_out(out, n);
+    if !wrote.taken {
+        return Ending::Untaken;
+    }
+    Ending::Ended(wrote.count)
 }
 
-// The program on the file descriptor fd.
-pub fn run_gate(fd: i32) {
+// The program on the file descriptor fd. What it prints at the end stands at the front of out.
+pub fn run_gate(fd: i32, input: &mut [u8; READ], out: &mut [u8; OUT]) -> Ending
+    ensures for_every_list { λ r. ⌜ EndsFor (replicate objectSize 0) (now (out .exit)) r ⌝ }
+{
     let mut cards = [0u64; CARDS];
     let mut object = [0u8; OBJECT];
     let mut line = [0u8; HELD];
-    let mut out = [0u8; GATHERED];
-    let text = run_whole(fd, &mut cards, &mut object, &mut line, &mut out);
-    print(text);
+    let end = run_whole(fd, &mut cards, &mut object, &mut line, input, out);
+    failed(end)
 }

@@ -8,5 +8,5 @@ pub main-spec : {M : Type 1} → statement M
 main-spec =
     tie.close
     (tie.spec
-    (λ i₀ end i. Unit) (λ i₀ end i. end - i) (λ c κs. search needs) (λ c. search needs) (λ c κs. search needs) (λ c. search needs)
+    (λ input₀ out₀ i₀ end input out i. Unit) (λ input₀ out₀ i₀ end input out i. end - i) (λ c κs. search needs) (λ c. search needs) (λ c κs. search needs) (λ c. search needs)
     (λ c. search needs) (λ c. search needs) (λ c. search needs))

@@ -1,54 +1,94 @@
 -- `gate_stream::run_block` meets its contract: a turn uses a part of the block. Assumes nothing.
-use mathlib.Core.Path.{_≡_, refl, _∙_}
-use Prim.Native.Nat.{_-_, _≤_}
+use mathlib.Core.Path.{_≡_, refl, sym, ap, ap₂, _∙_}
+use mathlib.Core.List.{List, _++_}
+use Prim.Native.Nat.{ℕ, _+_, _-_, _≤_}
+use native.Mathlib.Nat.{le-of-eq}
 use native.Mathlib.Omega.{arith}
 use borrow.Author.Needs.{needs}
-use borrow.Author.Tests.{ltb-true}
-use lib.ListN.{length, take}
-use Rattle.gate_lines.specs.Input.{inputStateOf, inputAfter}
-use Rattle.common.proofs.TestLaws.{and-left}
-use Rattle.gate_stream.specs.Stream.{gatherSize}
-use Rattle.gate_stream.proofs.StreamLaws.{fed-none, fed-part, used-up}
+use lib.ListN.{length, take, length-append}
+use lib.Seq.{take-all, length-take-le}
+use Rattle.common.specs.Lists.{overFront}
+use Rattle.common.proofs.ListsLaws.{over-next}
+use Rattle.gate_lines.specs.Input.{InputState, inputStateOf, inputAfter, textOfInput, partFrom}
+use Rattle.gate_stream.proofs.StreamLaws.{fed-none, text-none, front-none, fed-part, text-part, long-part, text-small}
 use Rattle.gate_stream.proofs.run_block.Statement.{statement}
 use Rattle.gate_stream.proofs.run_block.Tie as tie
 
 abbrev Inv-loop : tie.InvT-loop
 Inv-loop cards₀ object₀ line₀ out₀ block at₀ cards object line out at =
-    (length object ≡ length object₀) × (length out ≡ length out₀) × (at .gathered ≤ gatherSize) × (at .used ≤ length block)
-    × (inputStateOf (at .state) (at .held) cards object line ≡ inputAfter (inputStateOf (at₀ .state) (at₀ .held) cards₀ object₀ line₀) (take (at .used) block))
+    let m = inputStateOf (at₀ .state) (at₀ .held) cards₀ object₀ line₀ in
+    let text = textOfInput m (take (at .used) block) in
+    (length object ≡ length object₀) × (length out ≡ length out₀) × (at .used ≤ length block)
+    × (inputStateOf (at .state) (at .held) cards object line ≡ inputAfter m (take (at .used) block))
+    × (out ≡ overFront text out₀) × (at .gathered ≡ length text)
 
 abbrev μ-loop : tie.MeasureT-loop
 μ-loop cards₀ object₀ line₀ out₀ block at₀ cards object line out at = length block - at .used
 
 loop-holds : tie.Need-loop-holds Inv-loop μ-loop
-loop-holds c = let a = c .before .before .before .args in (refl, refl, omega arith, omega arith, fed-none _ (a .block .now) (a .start .used) (c .before .before .before .pre .0))
+loop-holds c =
+    let first = c .before .before .before in
+    let a = first .args in
+    let m = inputStateOf (a .start .state) (a .start .held) (a .cards .now) (a .object .now) (a .line .now) in
+    let e = first .pre .0 in
+    let t = text-none m (a .block .now) (a .start .used) e in
+    (refl, refl, omega (arith, e), fed-none m (a .block .now) (a .start .used) e, front-none _ (a .out .now) t, first .pre .1 ∙ ap length (sym t))
 
 one-line-requires : tie.Need-one-line-requires Inv-loop μ-loop
-one-line-requires c κs = let i = c .before .before .before .before .before .before .before .loop .inv in (omega (arith, i .2, i .1, c .before .before .before .before .before .before .before .before .before .before .before .pre .2), i .1 ∙ c .before .before .before .before .before .before .before .before .before .before .before .pre .2)
+one-line-requires c κs =
+    let test = c .before .before .before .before in
+    let at = test .before .before in
+    let first = at .before .before .before .before in
+    let a = first .args in
+    let m = inputStateOf (a .start .state) (a .start .held) (a .cards .now) (a .object .now) (a .line .now) in
+    let i = at .loop .inv in
+    let used = at .loop .at .used in
+    let small = text-small (take used (a .block .now)) m in
+    let h = test .if1 .taken in
+    let k = length-take-le used (a .block .now) (i .2) in
+    (h, omega (arith, small, h, i .5, i .1, k, first .pre .2, first .pre .3))
 
 loop-less : tie.Need-loop-less Inv-loop μ-loop
-loop-less c =
-    let h = ltb-true _ _ (and-left _ _ (c .before .before .before .before .before .before .before .before .before .if1 .taken)) in
-    let o = c .before .before .before .before .one-line .ensures .1 .0 h in
-    omega (arith, h, o .0, o .1)
+loop-less c = let o = c .before .before .before .before .one-line .ensures .1 .1 .1 in omega (arith, o)
 
 loop-again : tie.Need-loop-again Inv-loop μ-loop
 loop-again c =
-    let i = c .before .before .before .before .before .before .before .before .before .before .before .before .loop .inv in
-    let o = c .before .before .before .before .one-line .ensures .1 .0 (ltb-true _ _ (and-left _ _ (c .before .before .before .before .before .before .before .before .before .if1 .taken))) in
-    (search needs, search needs, c .before .before .before .before .one-line .ensures .1 .1, o .1, fed-part _ _ _ (c .before .before .before .before .before .before .before .before .before .before .before .before .before .before .before .before .args .block .now) _ _ (omega (arith, o .0)) (i .4) (c .before .before .before .before .one-line .ensures .0))
-
-same-length : tie.Need-same-length Inv-loop μ-loop
-same-length c = search needs
-
-same-length-2 : tie.Need-same-length-2 Inv-loop μ-loop
-same-length-2 c = search needs
+    let done = c .before .before .before .before .one-line in
+    let at = c .before .before .before .before .before .before .before .before .before .before .before in
+    let first = at .before .before .before .before in
+    let a = first .args in
+    let m = inputStateOf (a .start .state) (a .start .held) (a .cards .now) (a .object .now) (a .line .now) in
+    let i = at .loop .inv in
+    let u = at .loop .at .used in
+    let v = done .result .used in
+    let o = done .ensures .1 .1 .1 in
+    let h : u ≤ v = omega (arith, o) in
+    let t = text-part m _ (a .block .now) u v h (i .3) in
+    let before = textOfInput m (take u (a .block .now)) in (
+      search needs,
+      search needs,
+      o .1,
+      fed-part m _ _ (a .block .now) u v h (i .3) (done .ensures .0),
+      done .ensures .1 .0 ∙ over-next before _ (a .out .now) (i .4) (i .5) ∙ ap (λ (x : List ℕ). overFront x (a .out .now)) t,
+      long-part before _ (i .5) (done .ensures .1 .1 .0) t,
+    )
 
 returns : tie.Need-returns Inv-loop μ-loop
 returns c =
-    let i = c .before .before .before .loop .inv in
-    (i .4, ((λ m. used-up _ _ _ (c .if1 .left) (i .3) m), i .2))
+    let at = c .before .before in
+    let first = at .before .before .before .before in
+    let a = first .args in
+    let m = inputStateOf (a .start .state) (a .start .held) (a .cards .now) (a .object .now) (a .line .now) in
+    let i = at .loop .inv in
+    let whole = take-all (at .loop .at .used) (a .block .now) (c .if1 .left) in
+    let long = i .5 ∙ ap (λ (l : List ℕ). length (textOfInput m l)) whole in (
+      i .3 ∙ ap (inputAfter m) whole,
+      (
+        i .4 ∙ ap (λ (l : List ℕ). overFront (textOfInput m l) (a .out .now)) whole,
+        (long, omega (arith, long, text-small (a .block .now) m, first .pre .3)),
+      ),
+    )
 
 pub run-block-spec : {M : Type 1} → statement M
 run-block-spec =
-    tie.close (tie.spec Inv-loop μ-loop loop-holds one-line-requires loop-less loop-again same-length same-length-2 returns)
+    tie.close (tie.spec Inv-loop μ-loop loop-holds one-line-requires loop-less loop-again (λ c. search needs) (λ c. search needs) returns)

@@ -1,16 +1,39 @@
 -- `gate_stream::run_whole` meets its contract: what was fed, from the start to the end. Assumes nothing.
+use mathlib.Core.Path.{_≡_, _∙_}
+use native.Mathlib.Omega.{arith}
 use borrow.Author.Needs.{needs}
-use Rattle.gate_stream.proofs.StreamLaws.{start-fresh, ends-for}
+use lib.ListN.{length}
+use Rattle.gate_stream.proofs.StreamLaws.{start-fresh, ends-with}
 use Rattle.gate_stream.proofs.run_whole.Statement.{statement}
 use Rattle.gate_stream.proofs.run_whole.Tie as tie
 
-returns : tie.Need-returns
-returns c =
-    let a = c .before .before .before .before .before .before .before .before .before .before .before .before .before .before .before .before .before .before .before .before .args in
-    let begins = start-fresh (c .before .before .before .before .before .before .before .before .before .before .before .before .before .before .before .before .before .start .result) (a .cards .now) (a .object .now) (a .line .now) (c .before .before .before .before .before .before .before .before .before .before .before .before .before .before .before .before .before .start .ensures) in
-    (ends-for (a .object .now) _ _ _ _ begins (c .before .before .before .before .before .before .before .before .before .before .before .before .run-input .ensures) (c .before .before .before .before .last-line .ensures) (c .end-text .ensures .1 .1), c .end-text .ensures .1 .0)
+last-text-requires : tie.Need-last-text-requires
+last-text-requires c κs =
+    let run = c .before .before .before .before .before .before .before .before .before .before .before .before .before .before .before in
+    let same : length (run .run-input .last .1 .1 .1 .1 .1 .1 .0) ≡ length (run .before .before .before .before .before .before .before .before .before .before .args .out .now) = search needs in
+    same ∙ run .before .before .before .before .before .before .before .before .before .before .pre .2
+
+write-out-requires : tie.Need-write-out-requires
+write-out-requires c κs =
+    let last = c .before .before .before .before .before in
+    let run = last .before .before .before .before .before .before .before .before .before .before .before .before .before .before .before .before in
+    let same : length (run .run-input .last .1 .1 .1 .1 .1 .1 .0) ≡ length (run .before .before .before .before .before .before .before .before .before .before .args .out .now) = search needs in
+    let then : length (last .last-text .last .1 .1 .1 .1 .0) ≡ length (run .run-input .last .1 .1 .1 .1 .1 .1 .0) = search needs in
+    omega (arith, last .last-text .ensures .1 .1, then, same, run .before .before .before .before .before .before .before .before .before .before .pre .2)
+
+returns-4 : tie.Need-returns-4
+returns-4 c =
+    let last = c .before .before .before .before .before .before .before .before .last-text in
+    let run = c .before .before .before .before .before .before .before .before .before .before .before .before .before .before .before .before .before .before .before .before .before .before .before .before in
+    let started = run .before .before .before .before .before .before .start in
+    let a = run .before .before .before .before .before .before .before .before .before .before .args in
+    let begins = start-fresh (started .result) (a .cards .now) (a .object .now) (a .line .now) (started .ensures) in
+    ends-with (a .object .now) _ _ _ _ _ _ begins (run .run-input .ensures) (c .before .before .write-out .ensures ∙ last .ensures .0) (last .ensures .1 .0)
 
 pub run-whole-spec : {M : Type 1} → statement M
 run-whole-spec =
     tie.close
-    (tie.spec (λ c κs. search needs) (λ c κs. search needs) (λ c κs. search needs) (λ c κs. search needs) (λ c. search needs) (λ c. search needs) returns)
+    (tie.spec
+    (λ c κs. search needs) (λ c κs. search needs) (λ c κs. search needs) (λ c. search needs) (λ c. search needs) (λ c. search needs) (λ c. search needs)
+    (λ c. search needs) (λ c. search needs) (λ c. search needs) (λ c. search needs) last-text-requires write-out-requires (λ c. search needs) (λ c. search needs)
+    (λ c. search needs) (λ c. search needs) (λ c. search needs) (λ c. search needs) (λ c. search needs) returns-4)
