@@ -942,6 +942,56 @@ script("empty_lines_at_the_end", "a granted reading and three further 0A: three 
        ALL_READ_1 + yes(1, 2) + [bad("")] * 3, GRANTED_1)
 script("only_card_lines", "card lines and nothing else", NONE_OPEN, [ok(SAMPLE_CARD), ok(card("0032 0001 092446 0 1"))], NO_SESSION)
 
+group("Long inputs")
+
+BLOCK = 16384          # the gate program reads so many bytes at once
+
+
+def size(lines):
+    return sum(len(line) + 1 for line, _ in lines)
+
+
+def filled(lines, count):
+    """The lines, and after them bad lines of at most 1,000 bytes, so that there are `count` bytes."""
+    left = count - size(lines)
+    assert left >= 0
+    while left > 0:
+        n = 1000 if left > 1500 else left
+        lines = lines + [bad("x" * (n - 1))]
+        left -= n
+    return lines
+
+
+def across(lines, line, border):
+    """The lines, and after bad lines that fill up to it the line that stands across the border."""
+    lines = filled(lines, border - len(line[0]) // 2) + [line]
+    assert size(lines) - len(line[0]) - 1 < border < size(lines) - 1
+    return lines
+
+
+reading_1 = ALL_READ_1 + yes(1, 2)
+long_1 = reading_1[:1]
+for k, line in enumerate(reading_1[1:-1]):
+    long_1 = across(long_1, line, (k + 1) * BLOCK)
+long_1 = filled(long_1, 4 * BLOCK - len(reading_1[-1][0]) - 1) + [reading_1[-1]]
+assert size(long_1) == 65536 and len(reading_1) == 5
+script("long_input_65536_bytes_granted", "65,536 bytes, four whole blocks: an answer or a verdict stands across each border, and the last 0A is the last byte", LINES,
+       long_1, GRANTED_1)
+
+long_2 = reading_1[:1]
+for k, line in enumerate(reading_1[1:]):
+    long_2 = across(long_2, line, (k + 1) * BLOCK)
+    if k == 1:
+        long_2 = long_2 + [bad("x" * 20000)]
+        long_2 = filled(long_2, 4 * BLOCK - 200)
+        break
+long_2 = across(long_2, reading_1[3], 4 * BLOCK)
+long_2 = filled(long_2, 80000) + [reading_1[4]]
+assert size(long_2) > 80000
+script("long_input_over_65536_bytes_granted", "over 80,000 bytes: lines across the borders of blocks, one longer than a block, the last verdict in the fifth block, without 0A", LINES,
+       long_2, GRANTED_1, newline=False)
+script("long_output_granted", "2,000 empty lines, 12,000 bytes printed at once, then a granted reading", OTHER_LINES, [bad("")] * 2000 + reading_1, GRANTED_1)
+
 
 # ------------------------------------------------- the checks and the writing
 
@@ -992,11 +1042,13 @@ def main():
             text = text[:-1]
         printed = reference.run(text)
         check(name, lines, last, printed.decode("ascii").splitlines())
-        assert len(text) <= 60000
         total += len(text)
         (data / name).write_bytes(text)
         stdout += name.encode("ascii") + b"\n" + printed
-    assert total < 300000
+    assert total < 600000
+    # A directory can be opened but not read: no line is printed and no stamp, and standard error has a line on it.
+    names.append(".")
+    stdout += b".\n"
     (HERE / "args").write_text("".join(name + "\n" for name in names))
     (HERE / "stdout").write_bytes(stdout)
     readme = ["# gate_examples: example scripts for `gate`", "",
@@ -1004,6 +1056,7 @@ def main():
               "of its own and then what the program prints for that file. The last line printed is the stamp, or `(refused 4)` where no session is open.", "",
               "`mode`, `cause`, `step` and the numbers of checks, causes and refusals are document 01's. A name that begins with `cause_` has that cause in its stamp; one",
               "that ends in `_granted` has a stamp that says granted; one that begins with `refused_` and a number has a line refused with that number; one that begins with `bad_` has a bad line.",
+              "The last name of `args` is `.`, a directory: it cannot be read, so nothing is printed for it on standard output, no stamp either, and a line on standard error says so.",
               "The last column has the words of document 01 that decide the last line, or the reply to the line that the script is about.", ""]
     for title, entries in groups:
         readme += ["## " + title, "", "| script | what it shows | last line | words of document 01 |", "|---|---|---|---|"]
