@@ -39,20 +39,18 @@ struct BlockState {
     gathered: usize,
 }
 
-// The program between two blocks: its state, how many bytes of an unfinished line are held, what the last read gave, how many bytes were handed on to be
-// written after it, and whether standard output took them.
-struct InputRun {
-    state: State,
-    held: usize,
-    got: isize,
-    wrote: usize,
-    taken: bool,
-}
-
 // How many bytes were handed on to be written, and whether standard output took them.
 struct Wrote {
     count: usize,
     taken: bool,
+}
+
+// The program between two blocks: its state, how many bytes of an unfinished line are held, what the last read gave, and what was written after it.
+struct InputRun {
+    state: State,
+    held: usize,
+    got: isize,
+    wrote: Wrote,
 }
 
 // How the program ended: with the text of the end, so many bytes; by a read that failed; by a write that failed.
@@ -145,7 +143,7 @@ fn one_block(
     requires { ⌜ (length (now input) ≡ readSize) × (length (now out) ≡ outSize) ⌝ }
     ensures state { λ r. ⌜ inputStateOf (r .state) (r .held) (now (cards .exit)) (now (object .exit)) (now (line .exit)) ≡ inputAfter (inputStateOf (start .state) (start .held) (now (cards .entry)) (now (object .entry)) (now (line .entry))) (take (clamped (r .got) readSize) (now (input .exit))) ⌝ }
     ensures prints { λ r. ⌜ now (out .exit) ≡ overFront (textOfInput (inputStateOf (start .state) (start .held) (now (cards .entry)) (now (object .entry)) (now (line .entry))) (take (clamped (r .got) readSize) (now (input .exit)))) (now (out .entry)) ⌝ }
-    ensures written { λ r. ⌜ r .wrote ≡ length (textOfInput (inputStateOf (start .state) (start .held) (now (cards .entry)) (now (object .entry)) (now (line .entry))) (take (clamped (r .got) readSize) (now (input .exit)))) ⌝ }
+    ensures written { λ r. ⌜ r .wrote .count ≡ length (textOfInput (inputStateOf (start .state) (start .held) (now (cards .entry)) (now (object .entry)) (now (line .entry))) (take (clamped (r .got) readSize) (now (input .exit)))) ⌝ }
 {
     let got = libc::read(fd, input);
     let n = io::count(got, input);
@@ -163,8 +161,7 @@ fn one_block(
         state,
         held: done.held,
         got,
-        wrote: wrote.count,
-        taken: wrote.taken,
+        wrote,
     }
 }
 
@@ -193,11 +190,11 @@ fn run_input(
     out: &mut [u8],
 ) -> InputRun
     requires { ⌜ (length (now input) ≡ readSize) × (length (now out) ≡ outSize) ⌝ }
-    ensures { λ r. ⌜ Fed (inputStateOf (start .state) (start .held) (now (cards .entry)) (now (object .entry)) (now (line .entry))) (inputStateOf (r .state) (r .held) (now (cards .exit)) (now (object .exit)) (now (line .exit))) (goesOn (r .got) (r .taken)) ⌝ }
+    ensures { λ r. ⌜ Fed (inputStateOf (start .state) (start .held) (now (cards .entry)) (now (object .entry)) (now (line .entry))) (inputStateOf (r .state) (r .held) (now (cards .exit)) (now (object .exit)) (now (line .exit))) (goesOn (r .got) (r .wrote .taken)) ⌝ }
 {
     let mut at = start;
     let mut turns = u64::MAX;
-    while (turns > 0) & goes_on(at.got, at.taken) {
+    while (turns > 0) & goes_on(at.got, at.wrote.taken) {
         turns -= 1;
         at = one_block(fd, at, cards, object, line, input, out);
     }
@@ -257,18 +254,21 @@ fn run_whole(
     ensures for_every_list { λ r. ⌜ EndsFor (now (object .entry)) (now (out .exit)) r ⌝ }
 {
     let state = run::start();
+    let wrote = Wrote {
+        count: 0,
+        taken: true,
+    };
     let start = InputRun {
         state,
         held: 0,
         got: 1,
-        wrote: 0,
-        taken: true,
+        wrote,
     };
     let end = run_input(fd, start, cards, object, line, input, out);
     if read_fails(end.got) {
         return Ending::Unread;
     }
-    if !end.taken {
+    if !end.wrote.taken {
         return Ending::Untaken;
     }
     let n = last_text(end, cards, object, line, out);

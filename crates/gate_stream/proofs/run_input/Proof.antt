@@ -18,7 +18,7 @@ use Rattle.gate_stream.proofs.run_input.Tie as tie
 abbrev Inv-loop : tie.InvT-loop
 Inv-loop fd cards₀ object₀ line₀ input₀ out₀ at₀ turns₀ cards object line input out at turns =
     (length object ≡ length object₀) × (length input ≡ length input₀) × (length out ≡ length out₀)
-    × FedBy turns (inputStateOf (at₀ .state) (at₀ .held) cards₀ object₀ line₀) (inputStateOf (at .state) (at .held) cards object line) (goesOn (at .got) (at .taken))
+    × FedBy turns (inputStateOf (at₀ .state) (at₀ .held) cards₀ object₀ line₀) (inputStateOf (at .state) (at .held) cards object line) (goesOn (at .got) (at .wrote .taken))
 
 abbrev μ-loop : tie.MeasureT-loop
 μ-loop fd cards₀ object₀ line₀ input₀ out₀ at₀ turns₀ cards object line input out at turns = turns
@@ -36,7 +36,7 @@ loop-less : tie.Need-loop-less Inv-loop μ-loop
 loop-less c = let test = c .before .before .before .before .before .before .before .before .before .before .before .before in omega (arith, ltb-true 0 (test .before .before .before .loop .turns) (and-left (ltb 0 (test .before .before .before .loop .turns)) _ (test .if1 .taken)))
 
 -- the number is what is read back from its bits
-go-on : (c : tie.After-goes-on Inv-loop μ-loop) → c .goes-on .result ≡ goesOn (c .before .before .loop .at .got) (c .before .before .loop .at .taken)
+go-on : (c : tie.After-goes-on Inv-loop μ-loop) → c .goes-on .result ≡ goesOn (c .before .before .loop .at .got) (c .before .before .loop .at .wrote .taken)
 go-on c =
     let back = toZ-ofZ w64 (c .before .before .loop .at .got) (record { sfits = c .before .struct-told .given .1 .1 .0 .1 }) in
     rw back at (c .goes-on .ensures)
