@@ -9,14 +9,14 @@ use mathlib.Mathlib.Data.Bool.Basic.{eq-false-of-not-eq-true}
 use Prim.Native.Nat.{ℕ, zero, suc, min, _+_, _-_, _*_, _/_, _%_, _≤_, _<_}
 use native.Mathlib.Nat.{zero-add, add-assoc, div-add-mod, lt-of-not-le, eq-or-lt-of-le}
 use native.Mathlib.Omega.{arith}
-use borrow.Author.Tests.{eqb-true, ltb-true, ltb-false, lt-ltb, le-ltb, eq-eqb, ne-eqb}
+use borrow.Author.Tests.{eqb-true, eqb-false, ltb-true, ltb-false, lt-ltb, le-ltb, eq-eqb, ne-eqb}
 use lib.Dec.{eqb, ltb, lit<}
 use lib.ListN.{length, getD, take, drop, List·getD-eq-default, length-take, length-drop}
-use lib.Seq.{take-at, drop-append-add, take-add, take-length, getD-take, getD-drop}
+use lib.Seq.{take-at, drop-append-add, take-add, take-all, take-take, take-length, getD-take, getD-drop}
 use Rattle.common.specs.Lists.{listOf, overFront, written}
 use Rattle.common.proofs.ListsLaws.{all-at, all-of, listOf-is, length-listOf, getD-listOf}
 use Rattle.ccl.specs.Line.{keyLimit, digitOf, cardText, lineOf, goodLine, lineKey}
-use Rattle.ccl.specs.ListText.{lineAt, goodLines, wellFormed, keyAt, readRefusal, readOf, keysAfter, smallKeys, writeRefusal, writeOf, linesOf, textAfter}
+use Rattle.ccl.specs.ListText.{lineSize, lineAt, goodLines, wellFormed, keyAt, readRefusal, readOf, keysAfter, smallKeys, writeRefusal, writeOf, linesOf, textAfter}
 use Rattle.ccl.proofs.PassingLaws.{passing-is, passing-all}
 use Rattle.ccl.proofs.LineLaws.{length-line, line-good, key-line, line-key, key-small, good-length, only-end}
 use Rattle.ccl.proofs.LinesLaws.{length-text, text-append}
@@ -193,15 +193,72 @@ pub malformed-read : (text : List ℕ) (room : ℕ) → wellFormed text ≡ fals
 unfolding readOf readRefusal
 malformed-read text room e = rw e
 
--- the number beside 20 is that of the first malformed line, counted from 1: every line before it is good, and it is not
-pub first-malformed : (text : List ℕ) (room : ℕ) → readOf text room .0 ≡ 20
-    → let n = readOf text room .1 in (0 < n) × ((i : ℕ) → i + 1 < n → goodLine (lineAt text i) ≡ true) × (goodLine (lineAt text (n - 1)) ≡ false)
-unfolding readOf
+-- Line n of a text, counted from 1, is its first malformed line: it has a byte; n - 1 bytes 0A stand before it, one of them right before it where it is not the first
+-- line; every line before it is good; and no list line begins where it begins, however many bytes are taken for it.
+pub record FirstMalformed (text : List ℕ) (n : ℕ) : Type 0 where
+  pub counted : 0 < n
+  pub there : lineSize * (n - 1) < length text
+  pub after : occurrences 0x0A (take (lineSize * (n - 1)) text) ≡ n - 1
+  pub begins : (j : ℕ) → j + 1 ≡ lineSize * (n - 1) → getD text j 0 ≡ 0x0A
+  pub before : (i : ℕ) → i + 1 < n → goodLine (lineAt text i) ≡ true
+  pub malformed : (k : ℕ) → goodLine (take k (drop (lineSize * (n - 1)) text)) ≡ false
+
+-- a text that is refused by 20 is malformed
+refused-malformed : (text : List ℕ) (room : ℕ) → readRefusal text room ≡ 20 → wellFormed text ≡ false
+unfolding readRefusal
+refused-malformed text room = go (wellFormed text) (ltb room (goodLines text))
+  where
+    go : (w l : Bool) → _≡_ {A = ℕ} (cond (not w) 20 (cond l 21 0)) 20 → w ≡ false
+    go true true e = absurd (omega arith)
+    go true false e = absurd (omega arith)
+    go false l e = refl
+
+-- the good lines that a text begins with have as many bytes 0A, the last byte among them, and where it is malformed a byte follows
+ends-before : (text : List ℕ) → occurrences 0x0A (take (32 * goodLines text) text) ≡ goodLines text
+ends-before text =
+    ap (occurrences 0x0A) (sym (first-lines text (goodLines text) (omega arith))) ∙ text-ends (keysOf text) ∙ length-listOf (goodLines text) (keyAt text)
+
+end-before : (text : List ℕ) (j : ℕ) → j + 1 ≡ 32 * goodLines text → getD text j 0 ≡ 0x0A
+unfolding lineOf cardText listOf lineAt
+end-before text j e =
+    let i = goodLines text - 1 in
+    let s = lineAt text i in
+    let key-of = line-key s (good-line text i (omega arith)) in
+    let at : j ≡ 32 * i + 31 = omega (arith, e) in
+    rw at (sym (getD-take 32 (drop (32 * i) text) 31 0 (lit< tt) ∙ getD-drop (32 * i) text 31 0) ∙ ap (λ (l : List ℕ). getD l 31 0) (sym key-of))
+
+byte-after : (text : List ℕ) → wellFormed text ≡ false → 32 * goodLines text < length text
+unfolding wellFormed goodLines
+byte-after text e =
+    let n = length text / 32 in
+    let p = passing-is n (λ i. goodLine (lineAt text i)) .most in
+    omega (arith, p, eqb-false (32 * goodLines text) (length text) e)
+
+-- where 32 bytes are no list line, no other count of them is
+no-line : (l : List ℕ) (k : ℕ) → goodLine (take 32 l) ≡ false → goodLine (take k l) ≡ false
+no-line l k e = by (goodLine (take k l)) refl
+  where
+    by : (b : Bool) → goodLine (take k l) ≡ b → goodLine (take k l) ≡ false
+    by true q =
+        let size = good-length (take k l) q in
+        ap goodLine (sym (take-all 32 (take k l) (omega (arith, size))) ∙ take-take 32 k l (omega (arith, size, length-take k l))) ∙ e
+    by false q = q
+
+-- the number beside 20 is that of the first malformed line
+pub first-malformed : (text : List ℕ) (room : ℕ) → readOf text room .0 ≡ 20 → FirstMalformed text (readOf text room .1)
+unfolding readOf lineAt
 first-malformed text room e =
     let f : readRefusal text room ≡ 20 = e in
     let last : goodLines text + 1 - 1 ≡ goodLines text = omega arith in
-    rw (f, last)
-    (omega arith, (λ i h. good-line text i (omega arith)), line-after text)
+    rw f
+    (record {
+      counted = omega arith;
+      there = rw last (byte-after text (refused-malformed text room f));
+      after = rw last (ends-before text);
+      begins = λ j h. end-before text j (rw last at h);
+      before = λ i h. good-line text i (omega arith);
+      malformed = λ k. rw last (no-line (drop (32 * goodLines text) text) k (line-after text));
+    })
 
 -- ---- a key in the list and its line in the text
 

@@ -9,8 +9,10 @@ use lib.ListN.{length, getD, take, drop, drop-of-length-le}
 use Rattle.common.proofs.ListsLaws.{written-none}
 use Rattle.bytes.specs.Bytes.{indexAfter, indexOf}
 use Rattle.gate_lines.specs.Line.{lineIn}
-use Rattle.gate_lines.specs.Gate.{Gate, gateAfter, replyTo, cardsAfter, replyText}
-use Rattle.gate_lines.specs.Input.{InputState, mostHeld, inputAfter, textOfInput, lastGate, lastText, partFrom, heldAfter, lineAfter, placesAfter}
+use Rattle.gate_lines.specs.Gate.{Gate, gateAfter, replyTo, replyText}
+use Rattle.gate_lines.specs.GateCode.{cardsAfter}
+use Rattle.gate_lines.specs.Input.{InputState, mostHeld, inputAfter, textOfInput, lastGate, lastText}
+use Rattle.gate_lines.specs.InputCode.{partFrom, heldAfter, lineAfter, placesAfter}
 use Rattle.gate_lines.specs.declared.state.State.{State}
 use Rattle.gate_lines.specs.declared.state.LineReply.{LineReply}
 use Rattle.gate_lines.proofs.InputLaws.{heldTo, part-run, part-line}

@@ -1,6 +1,6 @@
 -- An input in blocks, one byte after another, does and prints what the list of its lines does.
 -- Assumes nothing.
-use mathlib.Core.Path.{_≡_, refl, sym, ap, ap₂, _∙_}
+use mathlib.Core.Path.{_≡_, refl, sym, ap, ap₂, subst, _∙_}
 use mathlib.Core.Bool.{Bool, true, false}
 use mathlib.Core.List.{List, [], _∷_, _++_, append-assoc, append-nil}
 use Prim.Native.Nat.{ℕ, zero, suc, min, _+_, _-_, _≤_, _<_}
@@ -13,10 +13,12 @@ use Rattle.common.specs.Lists.{listOf, written}
 use Rattle.common.proofs.ListsLaws.{length-listOf, listOf-is, written-none, length-written}
 use Rattle.bytes.specs.Bytes.{indexOf}
 use Rattle.gate_lines.proofs.LineLaws.{line-held}
+use Rattle.gate_lines.proofs.NumberLaws.{run-printed, run-output}
 use Rattle.gate_lines.specs.Line.{longest, lineIn}
-use Rattle.gate_lines.specs.Gate.{Gate, gateAfter, replyTo, replyText, endText}
-use Rattle.gate_lines.specs.Run.{runLines, printed, output}
-use Rattle.gate_lines.specs.Input.{Cut, cutByte, cut, lastLine, linesIn, mostHeld, InputState, inputStart, inputAfterByte, textOfByte, inputAfter, textOfInput, lastGate, lastText, partFrom, heldAfter, lineAfter}
+use Rattle.gate_lines.specs.Gate.{Gate, gateAfter, replyTo, replyText, fresh, endText}
+use Rattle.gate_lines.specs.Run.{runLines, printed, output, Since, since, printedFor, endFor}
+use Rattle.gate_lines.specs.Input.{Cut, cutByte, cut, lastLine, cutOf, linesIn, mostHeld, InputState, inputStart, inputAfterByte, textOfByte, inputAfter, textOfInput, lastGate, lastText, FeedPromise, LastPromise}
+use Rattle.gate_lines.specs.InputCode.{partFrom, heldAfter, lineAfter}
 use Rattle.common.proofs.PlaceLaws.{NoEnd, none-before, with-end}
 
 -- ---- one block after another
@@ -285,3 +287,35 @@ pub whole-output : (g : Gate) (s : List ℕ)
 unfolding output
 whole-output g s =
     ap₂ (λ (t : List ℕ) (h : Gate). t ++ endText (h .session)) (sym (whole-text g s)) (whole-gate g s)
+
+-- ---- the promises of the contracts
+
+cut-append : (a b : List ℕ) (c : Cut) → cut c (a ++ b) ≡ cut (cut c a) b
+unfolding cut
+cut-append [] b c = refl
+cut-append (x ∷ a) b c = cut-append a b (cutByte c x)
+
+-- the state is that of the bytes before
+cut-does : (g : Gate) (m : InputState) (bytes : List ℕ) → m ≡ inputAfter (inputStart g) bytes → Does g (cutOf bytes) m
+cut-does g m bytes e = subst (Does g (cutOf bytes)) (sym e) (feed-cut bytes g (record { lines = []; rest = [] }) (inputStart g) (starts-does g))
+
+pub feed-promise : (m : InputState) (part text : List ℕ) → text ≡ textOfInput m part → FeedPromise m part text
+feed-promise m part text e object bytes p =
+    let c = cutOf bytes in
+    ap₂ (λ (a b : List ℕ). a ++ b) (sym (run-printed object (c .lines))) e ∙ sym (cut-prints part (fresh object) c m (cut-does (fresh object) m bytes p))
+    ∙ ap (λ (x : Cut). printed (fresh object) (x .lines)) (sym (cut-append bytes part (record { lines = []; rest = [] }))) ∙ run-printed object (cutOf (bytes ++ part) .lines)
+
+pub last-promise : (m : InputState) (text : List ℕ) → text ≡ lastText m → LastPromise m text
+unfolding linesIn
+last-promise m text e object bytes p =
+    let c = cutOf bytes in
+    let d = cut-does (fresh object) m bytes p in
+    ap₂ (λ (a b : List ℕ). a ++ b) (sym (run-printed object (c .lines))) e ∙ sym (last-text (fresh object) (c .lines) (c .rest) m (d .gate) (d .held))
+    ∙ run-printed object (c .lines ++ lastLine (c .rest))
+
+-- all that is printed of an input, in whatever blocks it arrives, by the reading
+pub whole-reading : (object s : List ℕ)
+    → let m = inputAfter (inputStart (fresh object)) s in
+    textOfInput (inputStart (fresh object)) s ++ lastText m ++ endText (lastGate m .session)
+    ≡ printedFor (fresh object) Since.none (linesIn s) ++ endFor (since (fresh object) (linesIn s))
+whole-reading object s = whole-output (fresh object) s ∙ run-output object (linesIn s)

@@ -7,12 +7,17 @@ use native.Mathlib.Omega.{arith}
 use lib.Dec.{eqb}
 use lib.ListN.{length, take, drop, length-take, length-drop}
 use Rattle.session.specs.Operation.{openOf, verdictOf}
-use Rattle.gate_lines.specs.Line.{GateLine, longest, hexFrom, lineIn, lineBy, Fits}
-use Rattle.gate_lines.specs.Gate.{gateOf, gateAfter, replyBy, replyTo, cardsAfter}
+use Rattle.gate_lines.specs.Line.{GateLine, longest, hexFrom, lineIn}
+use Rattle.gate_lines.specs.LineCode.{lineBy, Fits}
+use Rattle.gate_lines.specs.Gate.{gateOf, gateAfter, replyBy, replyTo}
+use Rattle.gate_lines.specs.GateCode.{cardsAfter}
 use Rattle.gate_lines.specs.declared.line.Line.{Line}
 use Rattle.gate_lines.specs.declared.state.State.{State}
 use Rattle.gate_lines.specs.declared.state.LineReply.{LineReply}
-use Rattle.gate_lines.specs.declared.state.LineReply.the-variants.{Bad}
+use Rattle.gate_lines.specs.declared.state.LineReply.the-variants.{Refused, Bad}
+use Rattle.gate_lines.specs.Run.{ReplyPromise}
+use Rattle.gate_lines.proofs.NumberLaws.{reply-promise}
+use Rattle.gate_lines.proofs.AnswerLineLaws.{Sized, line-not-seven}
 use Rattle.gate_lines.proofs.LentLaws.{card-with}
 
 -- The contract of a step: the state, what is printed and the cards' buffer after a line.
@@ -20,11 +25,18 @@ abbrev pub Steps : State → State → List ℕ → List ℕ → List ℕ → Li
 Steps s t cards left object then reply line =
     (gateOf t left then ≡ gateAfter (gateOf s cards object) line) × ((reply ≡ replyTo (gateOf s cards object) line) × ((t .cards, left) ≡ cardsAfter s cards line))
 
+-- The contract of a line: a step, what is promised of its reply for every list of lines before it, and that this never is 7.
+abbrev pub Runs : State → State → List ℕ → List ℕ → List ℕ → List ℕ → LineReply → GateLine → Type 0
+Runs s t cards left object then reply line =
+    (gateOf t left then ≡ gateAfter (gateOf s cards object) line)
+    × ((reply ≡ replyTo (gateOf s cards object) line) × (((t .cards, left) ≡ cardsAfter s cards line) × (ReplyPromise (gateOf s cards object) line reply × (reply ≡ Refused 7 → ⊥))))
+
 -- the line that the code read, by its kind
 pub steps-read : (s t : State) (cards left object then line : List ℕ) (reply : LineReply) (r k : Line) (l : GateLine) → lineBy r line ≡ lineIn line → r ≡ k → lineBy k line ≡ l
-    → Steps s t cards left object then reply l → Steps s t cards left object then reply (lineIn line)
-steps-read s t cards left object then line reply r k l e p q h =
-    subst (λ (x : GateLine). Steps s t cards left object then reply x) (sym q ∙ ap (λ (x : Line). lineBy x line) (sym p) ∙ e) h
+    → Sized (gateOf s cards object) l → Steps s t cards left object then reply l → Runs s t cards left object then reply (lineIn line)
+steps-read s t cards left object then line reply r k l e p q size h =
+    let f = subst (λ (x : GateLine). Steps s t cards left object then reply x) (sym q ∙ ap (λ (x : Line). lineBy x line) (sym p) ∙ e) h in
+    (f .0, (f .1 .0, (f .1 .1, (reply-promise (gateOf s cards object) (lineIn line) reply (f .1 .0), line-not-seven (gateOf s cards object) l reply size (h .1 .0)))))
 
 -- what the code knows of the line's length, by its kind
 pub fits-read : (line : List ℕ) (r k : Line) → Fits r line → r ≡ k → Fits k line

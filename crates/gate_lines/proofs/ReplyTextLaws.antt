@@ -1,19 +1,25 @@
 -- Text that grows at its end: a list stored right after the bytes that count, the parts of a text, and digits.
 -- Assumes nothing.
-use mathlib.Core.Path.{_≡_, sym, ap, _∙_}
-use mathlib.Core.List.{List, [], _++_}
-use Prim.Native.Nat.{ℕ, _+_, _*_, _≤_, min}
+use mathlib.Core.Path.{_≡_, refl, sym, ap, ap₂, _∙_}
+use mathlib.Core.Bool.{Bool, true, false, cond}
+use mathlib.Core.List.{List, [], _∷_, _++_}
+use Prim.Native.Nat.{ℕ, _+_, _*_, _/_, _≤_, min}
 use native.Mathlib.Nat.{le-of-eq}
 use native.Mathlib.Omega.{arith}
-use lib.ListN.{length, take, length-append}
+use lib.Dec.{ltb}
+use lib.ListN.{length, take, replicate, length-append, length-replicate}
 use lib.Seq.{take-at, length-take-le}
-use Rattle.common.specs.Lists.{overPlaces, written}
+use Rattle.common.specs.Lists.{overFront, overPlaces, written}
+use Rattle.common.proofs.ListsLaws.{over-next, length-front}
 use Rattle.session.specs.Tables.{stampSize}
 use Rattle.common.proofs.StoreLaws.{front-all}
 use Rattle.text.specs.Hex.{hexDigitAt, hexOf}
 use Rattle.text.proofs.HexLaws.{length-hex, front-hex}
-use Rattle.gate_lines.specs.Gate.{textIn, textSize, TextFits}
+use Rattle.gate_lines.specs.Gate.{decimalDigit, decimalText, refusedHead, closing, refusedText, replyText, textSize, textOf, textIn}
+use Rattle.gate_lines.specs.GateCode.{textWith, TextFits, unprinted, digitsFrom}
 use Rattle.gate_lines.specs.declared.state.Text.{Text}
+use Rattle.gate_lines.specs.declared.state.LineReply.{LineReply}
+use Rattle.gate_lines.specs.declared.state.LineReply.the-variants.{Ok, Refused, Bad}
 
 -- ---- bytes stored after the first n
 
@@ -26,28 +32,59 @@ over-after b s n h = take-at (take n b ++ s) _ (n + length s) (length-kept b s n
 
 -- ---- a text made of parts
 
--- the text of a refusal has at most 14 bytes, and fits
+-- its bytes are those that it was made of
+pub text-in : (s : List ℕ) {t : Text} → t ≡ textOf s → textIn t ≡ s
+unfolding overFront
+text-in s e = rw e (take-at s _ (length s) refl)
+
+-- one that is no longer than the most fits
+pub text-fits : (s : List ℕ) (n : ℕ) {t : Text} → t ≡ textOf s → length s + n ≤ textSize → TextFits t n
+text-fits s n e h =
+    let d : List ℕ = replicate textSize 0 in
+    let zeros : length d ≡ textSize = length-replicate textSize 0 in
+    rw e (length-front s d (omega (arith, zeros, h)) ∙ zeros, h)
+
+-- another part after it
+pub text-with : (p s : List ℕ) {t r : Text} → t ≡ textOf p → r ≡ textWith t s → r ≡ textOf (p ++ s)
+text-with p s e f =
+    f ∙ ap (λ (x : Text). textWith x s) e
+    ∙ ap₂ (λ (b : List ℕ) (n : ℕ). record { bytes = b; len = n }) (over-next p s (replicate textSize 0) refl refl) (sym (length-append p s))
+
+-- ---- how long a text is
+
+-- the text of a refusal has at most 14 bytes
 pub text-room : 14 ≤ textSize
 unfolding textSize stampSize
 text-room = omega arith
 
--- what an empty text tells, and a text with s after it
-abbrev pub Empty : Text → Type 0
-Empty t = (textIn t ≡ []) × TextFits t 0
+length-decimal : (n : ℕ) → length (decimalText n) ≤ 3
+unfolding decimalText
+length-decimal n = by (ltb n 10) (ltb n 100)
+  where
+    by : (a b : Bool) → length (cond a (decimalDigit n ∷ []) (cond b (decimalDigit (n / 10) ∷ decimalDigit n ∷ []) (decimalDigit (n / 100) ∷ decimalDigit (n / 10) ∷ decimalDigit n ∷ []))) ≤ 3
+    by true b = omega arith
+    by false true = omega arith
+    by false false = omega arith
 
-abbrev pub Grown : Text → List ℕ → Text → Type 0
-Grown t s r = (textIn r ≡ textIn t ++ s) × ((length (r .bytes) ≡ textSize) × (r .len ≡ t .len + length s))
-
-pub no-bytes : (t : Text) → Empty t → t .len ≡ 0
-no-bytes t e = sym (length-take-le (t .len) (t .bytes) (omega arith)) ∙ ap length (e .0)
-
-pub one : (e t : Text) (a : List ℕ) → Empty e → Grown e a t → textIn t ≡ a
-one e t a p q = q .0 ∙ rw (p .0)
-
-pub three : (e h m t : Text) (a b c : List ℕ) → Empty e → Grown e a h → Grown h b m → Grown m c t → textIn t ≡ a ++ b ++ c
-three e h m t a b c p q r s = s .0 ∙ rw (r .0, one e h a p q)
+-- what a line prints is no longer than the most
+pub reply-fits : (r : LineReply) → length (replyText r) + 0 ≤ textSize
+unfolding replyText refusedText
+reply-fits Ok = omega (arith, text-room)
+reply-fits Bad = omega (arith, text-room)
+reply-fits (Refused n) = omega (arith, text-room, length-append refusedHead (decimalText n), length-append (refusedHead ++ decimalText n) closing, length-decimal n)
 
 -- ---- digits
+
+-- the digits of a number from the first that is printed on
+pub digits-printed : (n : ℕ) → digitsFrom n (unprinted n) ≡ decimalText n
+unfolding unprinted decimalText
+digits-printed n = by (ltb n 10) (ltb n 100)
+  where
+    by : (a b : Bool) → digitsFrom n (cond a 2 (cond b 1 0))
+        ≡ cond a (decimalDigit n ∷ []) (cond b (decimalDigit (n / 10) ∷ decimalDigit n ∷ []) (decimalDigit (n / 100) ∷ decimalDigit (n / 10) ∷ decimalDigit n ∷ []))
+    by true b = refl
+    by false true = refl
+    by false false = refl
 
 -- a buffer that has as many places as there are digits holds them and nothing else
 pub spelled : (s d : List ℕ) {x : List ℕ} {n : ℕ} → length d ≡ 2 * length s → n ≡ min (2 * length s) (length d)

@@ -29,7 +29,7 @@ use Rattle.text.proofs.HexLaws.{bytes-small}
 use Rattle.ccl.specs.Line.{goodCard, lineKey}
 use Rattle.gate_lines.specs.Line.{GateLine, longest, openLowest, openHighest, answerOpens, verdictLowest, verdictHighest, hexFrom, headed, callIn, lineIn}
 use Rattle.gate_lines.specs.Gate.{Gate, gateAfter, hasRoom, commandRoom, fresh, endText}
-use Rattle.gate_lines.specs.Run.{runLines, Since, sinceLine, sinceLines, since, ReachedBy, Reached, endFor, EndPromise}
+use Rattle.gate_lines.specs.Run.{runLines, commandCall, Since, sinceLine, sinceLines, since, ReachedBy, Reached, endFor, EndPromise}
 
 -- ---- one call more
 
@@ -50,7 +50,7 @@ reached-on o b cs g u c l k e =
 -- ---- a line of each kind
 
 -- the bytes that a line gives to an answer call are bytes
-abbrev LineBytes : GateLine → Type 0
+abbrev pub LineBytes : GateLine → Type 0
 LineBytes (GateLine.card key) = Unit
 LineBytes (GateLine.opening mode date aid) = Unit
 LineBytes (GateLine.answer bytes) = Bytes bytes
@@ -67,24 +67,28 @@ buffer-is : (s : Session) (object bytes : List ℕ)
 unfolding answerBuffer
 buffer-is s object bytes = twice (eqb (answerRefusal s (length object) (length bytes)) 0) _ object
 
+-- the command call that is made before an answer
+pub command-reached : (o : Opening) (b : List ℕ) (cs : List Call) (g : Gate) → ReachedBy o b cs g
+    → ReachedBy o b (cs ++ (commandCall ∷ [])) (record { session = commandOf (g .session) commandRoom .2; keys = g .keys; object = g .object })
+command-reached o b cs g l = reached-on o b cs g _ commandCall l tt refl
+
 -- an answer line makes two calls
 answer-reached : (o : Opening) (b : List ℕ) (cs : List Call) (g : Gate) (bytes : List ℕ) → Bytes bytes → ReachedBy o b cs g
-    → ReachedBy o b (cs ++ (Call.command (replicate commandRoom 0) ∷ Call.answer (g .object) bytes (g .keys) ∷ [])) (gateAfter g (GateLine.answer bytes))
+    → ReachedBy o b (cs ++ (commandCall ∷ Call.answer (g .object) bytes (g .keys) ∷ [])) (gateAfter g (GateLine.answer bytes))
 unfolding gateAfter
 answer-reached o b cs g bytes k l =
-    let sent = reached-on o b cs g (record { session = commandOf (g .session) commandRoom .2; keys = g .keys; object = g .object }) (Call.command (replicate commandRoom 0)) l tt refl in
     let taken =
-    reached-on o b (cs ++ (Call.command (replicate commandRoom 0) ∷ [])) _ (gateAfter g (GateLine.answer bytes)) (Call.answer (g .object) bytes (g .keys)) sent ((λ z. refl), k)
+    reached-on o b (cs ++ (commandCall ∷ [])) _ (gateAfter g (GateLine.answer bytes)) (Call.answer (g .object) bytes (g .keys)) (command-reached o b cs g l) ((λ z. refl), k)
     (ap (λ (x : List ℕ). record { session = gateAfter g (GateLine.answer bytes) .session; object = x }) (buffer-is (commandOf (g .session) commandRoom .2) (g .object) bytes)) in
     subst (λ (x : List Call). ReachedBy o b x (gateAfter g (GateLine.answer bytes))) (append-assoc cs _ _) taken
 
 -- ---- no session is open
 
 -- every call on the dead session is refused, and leaves it dead
-refused-by-four : {k : ℕ} → k ≡ 4 → k ≡ 0 → ⊥
+pub refused-by-four : {k : ℕ} → k ≡ 4 → k ≡ 0 → ⊥
 refused-by-four e z = omega (arith, e, z)
 
-command-leaves : (s : Session) (object : List ℕ) → s ≡ dead → commandOf s commandRoom .2 ≡ dead
+pub command-leaves : (s : Session) (object : List ℕ) → s ≡ dead → commandOf s commandRoom .2 ≡ dead
 command-leaves s object e =
     ap (λ (x : Session). commandOf x commandRoom .2) e
     ∙ ap (λ (x : ℕ × ℕ × Session). x .2) (command-unchanged dead (replicate commandRoom 0) (refused-by-four (command-dead commandRoom)) .0)
@@ -122,7 +126,7 @@ reached-keys : (t : Since) (g : Gate) (keys : List ℕ) → Reached t g → Reac
 reached-keys Since.none g keys l = l
 reached-keys (Since.from o b cs) g keys l = record { history = l .history; opening = l .opening; buffer = l .buffer; made = l .made; host = l .host }
 
-line-reaches : (g : Gate) (t : Since) (line : GateLine) → LineBytes line → Reached t g → Reached (sinceLine g t line) (gateAfter g line)
+pub line-reaches : (g : Gate) (t : Since) (line : GateLine) → LineBytes line → Reached t g → Reached (sinceLine g t line) (gateAfter g line)
 unfolding gateAfter
 line-reaches g t (GateLine.card key) k l = either (Reached t) (hasRoom g) (reached-keys t g _ l) l
 line-reaches g t (GateLine.opening mode date aid) k l =
@@ -145,7 +149,7 @@ bytes-by false false false true e key mode date kind yesNo aid bytes fascn k = k
 bytes-by false false false false true key mode date kind yesNo aid bytes fascn k = tt
 bytes-by false false false false false key mode date kind yesNo aid bytes fascn k = tt
 
-line-bytes : (l : List ℕ) → LineBytes (lineIn l)
+pub line-bytes : (l : List ℕ) → LineBytes (lineIn l)
 unfolding lineIn callIn
 line-bytes l =
     bytes-by (ltb longest (length l)) (goodCard l) (headed openLowest openHighest l) (headed answerOpens answerOpens l) (headed verdictLowest verdictHighest l)

@@ -1,11 +1,11 @@
 -- What a line does to the gate program's state, what it prints, and what is printed at the end (document 01, "List text and the gate program").
 -- Assumes nothing.
-use mathlib.Core.Path.{_≡_}
 use mathlib.Core.Bool.{Bool, cond}
 use mathlib.Core.List.{List, [], _∷_, _++_}
-use Prim.Native.Nat.{ℕ, _+_, _*_, _/_, _%_, _≤_}
+use Prim.Native.Nat.{ℕ, _+_, _*_, _/_, _%_}
 use lib.Dec.{eqb, ltb}
-use lib.ListN.{length, set, take, drop, replicate}
+use lib.ListN.{length, take, replicate}
+use Rattle.common.specs.Lists.{overFront}
 use Rattle.card.specs.Command.{commandMost}
 use Rattle.text.specs.Hex.{hexOf}
 use Rattle.session.specs.Tables.{stampSize}
@@ -77,29 +77,16 @@ replyTo g (GateLine.answer bytes) = replyBy (answerOf (commanded g) (g .object) 
 replyTo g (GateLine.verdict kind yesNo fascn) = replyBy (verdictOf (g .session) kind yesNo fascn .0)
 replyTo g GateLine.bad = Bad
 
--- The count of cards and their buffer then: a card that is kept is written after those before it, and every other place stays.
-unfoldable pub cardsAfter : State → List ℕ → GateLine → ℕ × List ℕ
-cardsAfter st cards (GateLine.card key) = cond (ltb (st .cards) mostCards) (st .cards + 1, set cards (st .cards) key) (st .cards, cards)
-cardsAfter st cards (GateLine.opening mode date aid) = (st .cards, cards)
-cardsAfter st cards (GateLine.answer bytes) = (st .cards, cards)
-cardsAfter st cards (GateLine.verdict kind yesNo fascn) = (st .cards, cards)
-cardsAfter st cards GateLine.bad = (st .cards, cards)
-
 -- ---- text
 
--- The bytes of a text.
-abbrev pub textIn : Text → List ℕ
-textIn t = take (t .len) (t .bytes)
-
--- A number below 1,000 in decimal: its three digits without the zeros in front.
+-- The last decimal digit of x in ASCII, and a number below 1,000 in decimal.
 abbrev pub decimalDigit : ℕ → ℕ
 decimalDigit x = 48 + x % 10
 
-unfoldable pub unprinted : ℕ → ℕ
-unprinted n = cond (ltb n 10) 2 (cond (ltb n 100) 1 0)
-
 unfoldable pub decimalText : ℕ → List ℕ
-decimalText n = drop (unprinted n) (decimalDigit (n / 100) ∷ decimalDigit (n / 10) ∷ decimalDigit n ∷ [])
+decimalText n =
+    cond (ltb n 10) (decimalDigit n ∷ [])
+    (cond (ltb n 100) (decimalDigit (n / 10) ∷ decimalDigit n ∷ []) (decimalDigit (n / 100) ∷ decimalDigit (n / 10) ∷ decimalDigit n ∷ []))
 
 -- `(refused `, and `)` with 0A
 abbrev pub refusedHead : List ℕ
@@ -128,9 +115,13 @@ stampText stamp = stampOpens ++ hexOf stamp ++ closing
 unfoldable pub textSize : ℕ
 textSize = length stampOpens + 2 * stampSize + length closing
 
--- A text has room for n bytes more.
-abbrev pub TextFits : Text → ℕ → Type 0
-TextFits t n = (length (t .bytes) ≡ textSize) × (t .len + n ≤ textSize)
+-- A text as the code gives it: its bytes with zeros after them, and how many count.
+abbrev pub textOf : List ℕ → Text
+textOf s = record { bytes = overFront s (replicate textSize 0); len = length s }
+
+-- The bytes that count: those that it was made of (`text-in`, proofs/ReplyTextLaws.antt).
+abbrev pub textIn : Text → List ℕ
+textIn t = take (t .len) (t .bytes)
 
 -- "at the end `(stamp HEX)`, or `(refused 4)` if no session is open"
 unfoldable pub endText : Session → List ℕ

@@ -1,14 +1,14 @@
 -- The input: bytes, in blocks of any size, cut into lines at 0A. "The 0A isn't counted, and the last line may lack it."
 -- Assumes nothing.
+use mathlib.Core.Path.{_≡_}
 use mathlib.Core.Bool.{cond}
 use mathlib.Core.List.{List, [], _∷_, _++_}
-use Prim.Native.Nat.{ℕ, _+_, _-_, min}
-use lib.Dec.{eqb, ltb}
-use lib.ListN.{length, getD, take, drop}
-use Rattle.common.specs.Lists.{written}
-use Rattle.bytes.specs.Bytes.{indexOf}
+use Prim.Native.Nat.{ℕ, _+_}
+use lib.Dec.{eqb}
+use lib.ListN.{length, take}
 use Rattle.gate_lines.specs.Line.{longest, lineIn}
-use Rattle.gate_lines.specs.Gate.{Gate, gateOf, gateAfter, replyTo, cardsAfter, replyText}
+use Rattle.gate_lines.specs.Gate.{Gate, gateOf, gateAfter, replyTo, replyText, fresh}
+use Rattle.gate_lines.specs.Run.{Since, printedFor}
 use Rattle.gate_lines.specs.declared.state.State.{State}
 
 -- ---- the lines of an input
@@ -30,8 +30,11 @@ abbrev pub lastLine : List ℕ → List (List ℕ)
 lastLine [] = []
 lastLine (b ∷ s) = (b ∷ s) ∷ []
 
+abbrev pub cutOf : List ℕ → Cut
+cutOf s = cut (record { lines = []; rest = [] }) s
+
 unfoldable pub linesIn : List ℕ → List (List ℕ)
-linesIn s = let c = cut (record { lines = []; rest = [] }) s in c .lines ++ lastLine (c .rest)
+linesIn s = let c = cutOf s in c .lines ++ lastLine (c .rest)
 
 -- ---- the program on one byte after another
 
@@ -73,28 +76,18 @@ lastGate m = cond (eqb (length (m .held)) 0) (m .gate) (gateAfter (m .gate) (lin
 unfoldable pub lastText : InputState → List ℕ
 lastText m = cond (eqb (length (m .held)) 0) [] (replyText (replyTo (m .gate) (lineIn (m .held))))
 
--- ---- how the code holds a line
+-- ---- what is promised, as the contracts of the code carry it: for every object buffer and all bytes that lead to the state
 
--- The part of a block that is fed at once: from a place on, to the first 0A with it, or to the end.
-unfoldable pub partFrom : List ℕ → ℕ → ℕ → List ℕ
-partFrom block from used = take (used - from) (drop from block)
+-- What the whole lines of an input print, by the reading.
+abbrev pub printedOf : List ℕ → List ℕ → List ℕ
+printedOf object bytes = printedFor (fresh object) Since.none (cutOf bytes .lines)
 
--- How many bytes are held once n more have come, and the buffer then: bytes past the room are dropped.
-unfoldable pub heldAfter : ℕ → ℕ → ℕ
-heldAfter held n = held + min n (mostHeld - held)
+-- What was printed before, with the text of a part of the input after it, is what the whole lines print of all that was fed.
+abbrev pub FeedPromise : InputState → List ℕ → List ℕ → Type 0
+FeedPromise m part text =
+    (object bytes : List ℕ) → m ≡ inputAfter (inputStart (fresh object)) bytes → printedOf object bytes ++ text ≡ printedOf object (bytes ++ part)
 
-unfoldable pub lineAfter : List ℕ → ℕ → List ℕ → ℕ → ℕ → List ℕ
-lineAfter line held block from n = written line held (min n (mostHeld - held)) (λ j. getD block (from + j) 0)
-
--- The places after the part from place `from` of a block on, to the first 0A or to the end: how far the block is used, how many bytes are held, the line's buffer, and the
--- cards with their count. A 0A ends the line, which is carried out, and nothing is held.
-unfoldable pub placesAfter : State → ℕ → List ℕ → List ℕ → List ℕ → ℕ → ℕ × ℕ × List ℕ × (ℕ × List ℕ)
-placesAfter st held cards line block from =
-    let end = from + indexOf 0x0A (drop from block) in
-    let n = heldAfter held (end - from) in
-    let then = lineAfter line held block from (end - from) in
-    cond (ltb end (length block)) (end + 1, 0, then, cardsAfter st cards (lineIn (take n then))) (end, n, then, (st .cards, cards))
-
--- The cards with their count after the end of the input.
-unfoldable pub lastCards : State → ℕ → List ℕ → List ℕ → ℕ × List ℕ
-lastCards st held cards line = cond (eqb held 0) (st .cards, cards) (cardsAfter st cards (lineIn (take held line)))
+-- The same at the end of the input, with the last line.
+abbrev pub LastPromise : InputState → List ℕ → Type 0
+LastPromise m text =
+    (object bytes : List ℕ) → m ≡ inputAfter (inputStart (fresh object)) bytes → printedOf object bytes ++ text ≡ printedFor (fresh object) Since.none (linesIn bytes)

@@ -3,14 +3,12 @@
 -- Assumes nothing.
 use mathlib.Core.Bool.{Bool, cond, _&&_}
 use mathlib.Core.List.{List, [], _∷_}
-use Prim.Native.Nat.{ℕ, _+_, _-_, _≤_}
+use Prim.Native.Nat.{ℕ, _+_, _-_}
 use lib.Dec.{eqb, ltb, leb}
 use lib.ListN.{length, getD, take, drop}
 use Rattle.text.specs.Hex.{isHex, bytesIn}
 use Rattle.text.specs.Form.{between, decimal}
 use Rattle.ccl.specs.Line.{goodCard, lineKey}
-use Rattle.gate_lines.specs.declared.line.Line.{Line}
-use Rattle.gate_lines.specs.declared.line.Line.the-variants as lines
 
 pub data GateLine : Type 0 where
   card : (key : ℕ) → GateLine
@@ -74,19 +72,3 @@ callIn s =
 
 unfoldable pub lineIn : List ℕ → GateLine
 lineIn s = cond (ltb longest (length s)) bad (cond (goodCard s) (card (lineKey s)) (callIn s))
-
--- What the code's answer says of the line s.
-abbrev pub lineBy : Line → List ℕ → GateLine
-lineBy (lines.Card key) s = card key
-lineBy (lines.Open mode date) s = opening mode date (bytesIn (hexFrom openHead s))
-lineBy lines.Answer s = answer (bytesIn (hexFrom answerHead s))
-lineBy (lines.Verdict kind yesNo) s = verdict kind yesNo (bytesIn (hexFrom verdictHead s))
-lineBy lines.Bad s = bad
-
--- What the code's answer says of the line's length: HEX stands between its head and the last byte, and the line is not too long.
-abbrev pub Fits : Line → List ℕ → Type 0
-Fits (lines.Card key) s = Unit
-Fits (lines.Open mode date) s = (openHead + 3 ≤ length s) × (length s ≤ longest)
-Fits lines.Answer s = (answerHead + 3 ≤ length s) × (length s ≤ longest)
-Fits (lines.Verdict kind yesNo) s = (verdictHead + 3 ≤ length s) × (length s ≤ longest)
-Fits lines.Bad s = Unit

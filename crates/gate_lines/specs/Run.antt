@@ -1,18 +1,23 @@
--- The whole run: a list of lines, the calls that they make on the session, and what is printed at the end, by demand 3.
+-- The whole run: a list of lines, the calls that they make on the session, and what is printed for each line and at the end, by document 01's reading of those calls.
 -- Assumes nothing.
 use mathlib.Core.Path.{_≡_}
-use mathlib.Core.Bool.{cond}
+use mathlib.Core.Bool.{Bool, cond, not, _||_}
 use mathlib.Core.List.{List, [], _∷_, _++_, map}
 use Prim.Native.Nat.{ℕ}
 use lib.Dec.{eqb}
-use lib.ListN.{replicate}
+use lib.ListN.{length, replicate}
+use Rattle.common.specs.Refusal.{refusalOf}
+use Rattle.session.specs.Tables.{ends}
+use Rattle.session.specs.Condition.{openConditions, answerConditions}
 use Rattle.session.specs.Operation.{dead, openOf}
-use Rattle.session.specs.Reading.{Opening, begins, reading}
+use Rattle.session.specs.Reading.{Opening, Reading, begins, refusedBy, reading}
 use Rattle.session.specs.Finding.{finding, stampOf}
 use Rattle.session.specs.Promise.{Call, argumentsOf, History, finish}
 use Rattle.session.specs.declared.state.Session.{Session}
 use Rattle.gate_lines.specs.Line.{GateLine, lineIn}
-use Rattle.gate_lines.specs.Gate.{Gate, gateAfter, replyTo, replyText, commandRoom, fresh, refusedText, stampText, endText}
+use Rattle.gate_lines.specs.Gate.{Gate, gateAfter, hasRoom, replyBy, replyTo, replyText, commandRoom, fresh, refusedText, stampText, endText}
+use Rattle.gate_lines.specs.declared.state.LineReply.{LineReply}
+use Rattle.gate_lines.specs.declared.state.LineReply.the-variants.{Ok, Bad}
 
 -- ---- a list of lines
 
@@ -30,11 +35,15 @@ output g ls = printed g ls ++ endText (runLines g ls .session)
 
 -- ---- the calls that the lines make
 
+-- "Before each answer it makes the command call itself"
+abbrev pub commandCall : Call
+commandCall = Call.command (replicate commandRoom 0)
+
 -- The calls of one line, with all that they are lent. An opening begins anew and is no call on a session.
 abbrev pub callsOf : Gate → GateLine → List Call
 callsOf g (GateLine.card key) = []
 callsOf g (GateLine.opening mode date aid) = []
-callsOf g (GateLine.answer bytes) = Call.command (replicate commandRoom 0) ∷ Call.answer (g .object) bytes (g .keys) ∷ []
+callsOf g (GateLine.answer bytes) = commandCall ∷ Call.answer (g .object) bytes (g .keys) ∷ []
 callsOf g (GateLine.verdict kind yesNo fascn) = Call.verdict kind yesNo fascn ∷ []
 callsOf g GateLine.bad = []
 
@@ -77,11 +86,51 @@ abbrev pub Reached : Since → Gate → Type 0
 Reached Since.none g = g .session ≡ dead
 Reached (Since.from o object calls) g = ReachedBy o object calls g
 
+-- "Which calls are refused is read from the list too": the number that the reading of the calls since the last accepted opening gives to a call made next; 4 where no
+-- opening was accepted.
+abbrev pub numberFor : Since → Call → ℕ
+numberFor Since.none c = 4
+numberFor (Since.from o object calls) c = refusedBy (reading (begins o) (map argumentsOf calls)) (argumentsOf c)
+
+-- Nothing is left to read: all is read, or a cause ended the reading.
+abbrev pub ended : Reading → Bool
+ended r = eqb (r .progress .step) 3 || ends (r .progress .cause)
+
+-- The number of an answer line, by the calls before the line. It makes the command call first, for which it has room enough; a command is then outstanding, but where the
+-- reading has ended. So 5 is left where it has, 7 by the object buffer's size, and 8 by the answer's.
+abbrev pub answerFor : Since → ℕ → ℕ → ℕ
+answerFor Since.none size n = 4
+answerFor (Since.from o object calls) size n = refusalOf (answerConditions (not (ended (reading (begins o) (map argumentsOf calls)))) size n)
+
+-- What a line prints: an opening by document 01's conditions on its values, an answer and a verdict by the reading of the calls before. Of the state g this looks at the
+-- count of the cards and at the size of the object buffer.
+abbrev pub replyFor : Since → Gate → GateLine → LineReply
+replyFor t g (GateLine.card key) = cond (hasRoom g) Ok Bad
+replyFor t g (GateLine.opening mode date aid) = replyBy (refusalOf (openConditions mode date aid))
+replyFor t g (GateLine.answer bytes) = replyBy (answerFor t (length (g .object)) (length bytes))
+replyFor t g (GateLine.verdict kind yesNo fascn) = replyBy (numberFor t (Call.verdict kind yesNo fascn))
+replyFor t g GateLine.bad = Bad
+
+-- What is printed for a list of lines.
+unfoldable pub printedFor : Gate → Since → List (List ℕ) → List ℕ
+printedFor g t [] = []
+printedFor g t (l ∷ ls) = replyText (replyFor t g (lineIn l)) ++ printedFor (gateAfter g (lineIn l)) (sinceLine g t (lineIn l)) ls
+
 -- What is printed at the end: the stamp of the finding that is read from that opening and those calls.
 abbrev pub endFor : Since → List ℕ
 endFor Since.none = refusedText 4
 endFor (Since.from o object calls) = stampText (stampOf (finding (reading (begins o) (map argumentsOf calls))))
 
--- As the contract of the code carries it: for every object buffer and every list of lines that lead to the session.
+-- What is promised of the reply to a line.
+pub record ReplyPromised (t : Since) (g : Gate) (line : GateLine) (reply : LineReply) : Type 0 where
+  pub is : reply ≡ replyFor t g line
+  -- of an answer line this is the reading's number for the answer call, after the calls before and the command call
+  pub answer : (bytes : List ℕ) → line ≡ GateLine.answer bytes → reply ≡ replyBy (numberFor (withCalls t (commandCall ∷ [])) (Call.answer (g .object) bytes (g .keys)))
+
+-- As the contracts of the code carry it: for every object buffer and every list of lines that lead to the session.
+abbrev pub ReplyPromise : Gate → GateLine → LineReply → Type 0
+ReplyPromise g line reply =
+    (object : List ℕ) (ls : List (List ℕ)) → g .session ≡ runLines (fresh object) ls .session → ReplyPromised (since (fresh object) ls) g line reply
+
 abbrev pub EndPromise : Session → List ℕ → Type 0
 EndPromise s text = (object : List ℕ) (ls : List (List ℕ)) → s ≡ runLines (fresh object) ls .session → text ≡ endFor (since (fresh object) ls)

@@ -6,12 +6,15 @@ use crate::state::LineRun;
 use crate::state::State;
 use crate::state::Text;
 use common::slice;
+use session::figures::OBJECT;
 ghost use mathlib.Core.Path.{_≡_};
 ghost use Prim.Native.Nat.{_+_, _-_, _≤_, _<_};
 ghost use lib.ListN.{length, take};
 ghost use Rattle.gate_lines.specs.Line.{lineIn};
-ghost use Rattle.gate_lines.specs.Gate.{gateOf, gateAfter, replyTo, cardsAfter, textIn, TextFits};
-ghost use Rattle.gate_lines.specs.Input.{mostHeld, inputStateOf, inputAfter, textOfInput, lastGate, lastText, partFrom, heldAfter, lineAfter, placesAfter, lastCards};
+ghost use Rattle.gate_lines.specs.Gate.{gateOf, gateAfter, replyTo, textOf, textIn};
+ghost use Rattle.gate_lines.specs.GateCode.{cardsAfter, TextFits};
+ghost use Rattle.gate_lines.specs.Input.{mostHeld, inputStateOf, inputAfter, textOfInput, lastGate, lastText, FeedPromise, LastPromise};
+ghost use Rattle.gate_lines.specs.InputCode.{partFrom, heldAfter, lineAfter, placesAfter, lastCards};
 
 // How many bytes of a line are held, `mostHeld` in the definitions: one more than a line may have, so that a longer line is told from a whole one.
 pub const HELD: usize = LONGEST + 1;
@@ -59,7 +62,7 @@ impl State {
     fn line_done(
         self,
         cards: &mut [u64; CARDS],
-        object: &mut [u8],
+        object: &mut [u8; OBJECT],
         line: &[u8],
         held: usize,
     ) -> LineRun
@@ -78,16 +81,17 @@ impl State {
         self,
         held: usize,
         cards: &mut [u64; CARDS],
-        object: &mut [u8],
+        object: &mut [u8; OBJECT],
         line: &mut [u8; HELD],
         block: &[u8],
         from: usize,
     ) -> LineFed
         ensures state { λ r. ⌜ inputStateOf (r .state) (r .held) (now (cards .exit)) (now (object .exit)) (now (line .exit)) ≡ inputAfter (inputStateOf self held (now (cards .entry)) (now (object .entry)) (now (line .entry))) (partFrom (now (block .entry)) from (r .used)) ⌝ }
-        ensures prints { λ r. ⌜ textIn (r .text) ≡ textOfInput (inputStateOf self held (now (cards .entry)) (now (object .entry)) (now (line .entry))) (partFrom (now (block .entry)) from (r .used)) ⌝ }
+        ensures prints { λ r. ⌜ r .text ≡ textOf (textOfInput (inputStateOf self held (now (cards .entry)) (now (object .entry)) (now (line .entry))) (partFrom (now (block .entry)) from (r .used))) ⌝ }
         ensures places { λ r. ⌜ (r .used, r .held, now (line .exit), (r .state .cards, now (cards .exit))) ≡ placesAfter self held (now (cards .entry)) (now (line .entry)) (now (block .entry)) from ⌝ }
         ensures onward { λ r. ⌜ (from < length (now (block .entry)) → (from < r .used) × (r .used ≤ length (now (block .entry)))) ⌝ }
         ensures fits { λ r. ⌜ TextFits (r .text) 0 ⌝ }
+        ensures for_every_input { λ r. ⌜ FeedPromise (inputStateOf self held (now (cards .entry)) (now (object .entry)) (now (line .entry))) (partFrom (now (block .entry)) from (r .used)) (textIn (r .text)) ⌝ }
     {
         if block.len() <= from {
             let text = reply::no_text();
@@ -127,13 +131,14 @@ impl State {
         self,
         held: usize,
         cards: &mut [u64; CARDS],
-        object: &mut [u8],
+        object: &mut [u8; OBJECT],
         line: &[u8; HELD],
     ) -> Ended
         ensures state { λ r. ⌜ gateOf (r .state) (now (cards .exit)) (now (object .exit)) ≡ lastGate (inputStateOf self held (now (cards .entry)) (now (object .entry)) (now (line .entry))) ⌝ }
-        ensures prints { λ r. ⌜ textIn (r .text) ≡ lastText (inputStateOf self held (now (cards .entry)) (now (object .entry)) (now (line .entry))) ⌝ }
+        ensures prints { λ r. ⌜ r .text ≡ textOf (lastText (inputStateOf self held (now (cards .entry)) (now (object .entry)) (now (line .entry)))) ⌝ }
         ensures places { λ r. ⌜ (r .state .cards, now (cards .exit)) ≡ lastCards self held (now (cards .entry)) (now (line .entry)) ⌝ }
         ensures fits { λ r. ⌜ TextFits (r .text) 0 ⌝ }
+        ensures for_every_input { λ r. ⌜ LastPromise (inputStateOf self held (now (cards .entry)) (now (object .entry)) (now (line .entry))) (textIn (r .text)) ⌝ }
     {
         if held == 0 {
             let text = reply::no_text();

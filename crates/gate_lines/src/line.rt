@@ -7,7 +7,8 @@ ghost use mathlib.Core.Path.{_≡_};
 ghost use Prim.Native.Nat.{_+_, _≤_, _<_};
 ghost use lib.ListN.{length};
 ghost use Rattle.text.specs.Form.{decimal};
-ghost use Rattle.gate_lines.specs.Line.{longest, openHead, hexFrom, headed, callIn, lineIn, lineBy, Fits};
+ghost use Rattle.gate_lines.specs.Line.{longest, openHead, hexFrom, headed, callIn, lineIn};
+ghost use Rattle.gate_lines.specs.LineCode.{lineBy, Fits};
 
 // The most bytes of a line, its 0A not counted; `longest` in the definitions.
 pub(crate) const LONGEST: usize = 1024;

@@ -8,16 +8,16 @@ use session::figures::STAMP;
 use session::state::Session;
 use text::hex;
 ghost use mathlib.Core.Path.{_≡_};
-ghost use mathlib.Core.List.{[], _++_};
-ghost use Prim.Native.Nat.{_+_, _≤_};
+ghost use mathlib.Core.List.{[]};
+ghost use Prim.Native.Nat.{_≤_};
 ghost use lib.ListN.{length};
-ghost use Rattle.gate_lines.specs.Gate.{textIn, textSize, TextFits, unprinted, refusedText, replyText, stampText, endText};
+ghost use Rattle.gate_lines.specs.Gate.{textOf, textIn, refusedText, replyText, stampText, endText};
+ghost use Rattle.gate_lines.specs.GateCode.{textWith, TextFits, unprinted};
 ghost use Rattle.gate_lines.specs.Run.{EndPromise};
 
 // Nothing to print.
 pub(crate) fn no_text() -> Text
-    ensures is { λ r. ⌜ textIn r ≡ [] ⌝ }
-    ensures fits { λ r. ⌜ TextFits r 0 ⌝ }
+    ensures { λ r. ⌜ r ≡ textOf [] ⌝ }
 {
     Text {
         bytes: [0; TEXT],
@@ -29,8 +29,7 @@ impl Text {
     // The text with s after it.
     fn with(self, s: &[u8]) -> Text
         requires { ⌜ TextFits self (length (now s)) ⌝ }
-        ensures is { λ r. ⌜ textIn r ≡ textIn self ++ now (s .entry) ⌝ }
-        ensures fits { λ r. ⌜ (length (r .bytes) ≡ textSize) × (r .len ≡ self .len + length (now (s .entry))) ⌝ }
+        ensures { λ r. ⌜ r ≡ textWith self (now (s .entry)) ⌝ }
     {
         let mut bytes = self.bytes;
         let len = self.len;
@@ -58,8 +57,7 @@ fn unprinted(n: u8) -> usize
 
 // `(refused N)`.
 fn refused_text(n: u8) -> Text
-    ensures { λ r. ⌜ textIn r ≡ refusedText n ⌝ }
-    ensures fits { λ r. ⌜ TextFits r 0 ⌝ }
+    ensures { λ r. ⌜ r ≡ textOf (refusedText n) ⌝ }
 {
     let digits = [48 + n / 100 % 10, 48 + n / 10 % 10, 48 + n % 10];
     let from = unprinted(n);
@@ -71,8 +69,7 @@ fn refused_text(n: u8) -> Text
 impl LineReply {
     // What a line prints.
     pub fn text(self) -> Text
-        ensures { λ r. ⌜ textIn r ≡ replyText self ⌝ }
-        ensures fits { λ r. ⌜ TextFits r 0 ⌝ }
+        ensures { λ r. ⌜ r ≡ textOf (replyText self) ⌝ }
     {
         match self {
             LineReply::Ok => no_text().with(b"(ok)\n"),
@@ -84,7 +81,7 @@ impl LineReply {
 
 // `(stamp HEX)`.
 fn stamp_text(stamp: &[u8; STAMP]) -> Text
-    ensures { λ r. ⌜ textIn r ≡ stampText (now (stamp .entry)) ⌝ }
+    ensures is { λ r. ⌜ r ≡ textOf (stampText (now (stamp .entry))) ⌝ }
     ensures fits { λ r. ⌜ TextFits r 0 ⌝ }
 {
     let mut digits = [0u8; STAMP_DIGITS];
@@ -96,7 +93,7 @@ fn stamp_text(stamp: &[u8; STAMP]) -> Text
 
 // What is printed at the end: the session's stamp, or the number by which it is refused.
 pub fn end_text(session: Session) -> Text
-    ensures { λ r. ⌜ textIn r ≡ endText session ⌝ }
+    ensures is { λ r. ⌜ r ≡ textOf (endText session) ⌝ }
     ensures fits { λ r. ⌜ TextFits r 0 ⌝ }
     ensures for_every_list { λ r. ⌜ EndPromise session (textIn r) ⌝ }
 {

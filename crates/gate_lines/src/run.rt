@@ -11,6 +11,7 @@ use crate::state::LineRun;
 use crate::state::State;
 use card::command::COMMAND_MOST;
 use common::number;
+use session::figures::OBJECT;
 use session::open;
 use session::state::Answered;
 use text::hex;
@@ -23,7 +24,10 @@ ghost use lib.ListN.{length};
 ghost use Rattle.text.specs.Hex.{bytesIn};
 ghost use Rattle.session.specs.Operation.{dead, given, openOf, verdictOf};
 ghost use Rattle.gate_lines.specs.Line.{GateLine, longest, lineIn};
-ghost use Rattle.gate_lines.specs.Gate.{gateOf, gateAfter, mostCards, replyBy, replyTo, cardsAfter};
+ghost use Rattle.gate_lines.specs.Gate.{gateOf, gateAfter, mostCards, replyBy, replyTo};
+ghost use Rattle.gate_lines.specs.GateCode.{cardsAfter};
+ghost use Rattle.gate_lines.specs.Run.{ReplyPromise};
+ghost use Rattle.gate_lines.specs.declared.state.LineReply.the-variants.{Refused};
 
 // The most bytes that HEX of a line spells.
 const BYTES: usize = LONGEST / 2;
@@ -138,10 +142,12 @@ impl State {
     }
 
     // One line: the state after it, and what it prints.
-    pub fn run_line(self, cards: &mut [u64; CARDS], object: &mut [u8], s: &[u8]) -> LineRun
-        ensures { λ r. ⌜ gateOf (r .state) (now (cards .exit)) (now (object .exit)) ≡ gateAfter (gateOf self (now (cards .entry)) (now (object .entry))) (lineIn (now (s .entry))) ⌝ }
-        ensures { λ r. ⌜ r .reply ≡ replyTo (gateOf self (now (cards .entry)) (now (object .entry))) (lineIn (now (s .entry))) ⌝ }
-        ensures { λ r. ⌜ (r .state .cards, now (cards .exit)) ≡ cardsAfter self (now (cards .entry)) (lineIn (now (s .entry))) ⌝ }
+    pub fn run_line(self, cards: &mut [u64; CARDS], object: &mut [u8; OBJECT], s: &[u8]) -> LineRun
+        ensures state { λ r. ⌜ gateOf (r .state) (now (cards .exit)) (now (object .exit)) ≡ gateAfter (gateOf self (now (cards .entry)) (now (object .entry))) (lineIn (now (s .entry))) ⌝ }
+        ensures reply { λ r. ⌜ r .reply ≡ replyTo (gateOf self (now (cards .entry)) (now (object .entry))) (lineIn (now (s .entry))) ⌝ }
+        ensures places { λ r. ⌜ (r .state .cards, now (cards .exit)) ≡ cardsAfter self (now (cards .entry)) (lineIn (now (s .entry))) ⌝ }
+        ensures for_every_list { λ r. ⌜ ReplyPromise (gateOf self (now (cards .entry)) (now (object .entry))) (lineIn (now (s .entry))) (r .reply) ⌝ }
+        ensures never_seven { λ r. ⌜ (r .reply ≡ Refused 7 → ⊥) ⌝ }
     {
         let kind = line::read(s);
         match kind {

@@ -16,8 +16,10 @@ use Rattle.common.specs.Lists.{overFront, overPlaces}
 use Rattle.session.specs.Operation.{dead}
 use Rattle.session.specs.declared.state.Session.{Session}
 use Rattle.gate_lines.specs.Line.{lineIn}
-use Rattle.gate_lines.specs.Gate.{Gate, fresh, endText, replyTo, replyText, refusedText, decimalText, textIn, TextFits}
-use Rattle.gate_lines.specs.Input.{InputState, inputStateOf, inputAfterByte, inputAfter, textOfByte, textOfInput, partFrom, linesIn, inputStart, lastGate, lastText}
+use Rattle.gate_lines.specs.Gate.{Gate, fresh, endText, replyTo, replyText, refusedHead, closing, refusedText, decimalText, textIn}
+use Rattle.gate_lines.specs.GateCode.{TextFits}
+use Rattle.gate_lines.specs.Input.{InputState, inputStateOf, inputAfterByte, inputAfter, textOfByte, textOfInput, linesIn, inputStart, lastGate, lastText}
+use Rattle.gate_lines.specs.InputCode.{partFrom}
 use Rattle.gate_lines.specs.declared.state.Text.{Text}
 use Rattle.gate_lines.specs.declared.state.LineReply.{LineReply}
 use Rattle.gate_lines.specs.declared.state.LineReply.the-variants.{Ok, Refused, Bad}
@@ -68,7 +70,9 @@ pub reply-small : (r : LineReply) → length (replyText r) ≤ replyMost
 unfolding replyText refusedText decimalText
 reply-small Ok = omega arith
 reply-small Bad = omega arith
-reply-small (Refused n) = simp (length-append, length-drop) (omega arith)
+reply-small (Refused n) =
+    either (λ (d : List ℕ). length (refusedHead ++ d ++ closing) ≤ replyMost) (ltb n 10) (omega arith)
+    (either (λ (d : List ℕ). length (refusedHead ++ d ++ closing) ≤ replyMost) (ltb n 100) (omega arith) (omega arith))
 
 pub text-small : (s : List ℕ) (m : InputState) → length (textOfInput m s) ≤ replyMost * length s
 unfolding textOfInput

@@ -18,8 +18,10 @@ ghost use lib.ListN.{length, take, replicate};
 ghost use Rattle.common.specs.Lists.{overFront, overPlaces};
 ghost use Rattle.io.specs.Counts.{clamped};
 ghost use Rattle.session.specs.Tables.{objectSize};
-ghost use Rattle.gate_lines.specs.Gate.{textIn, TextFits};
-ghost use Rattle.gate_lines.specs.Input.{inputStateOf, inputAfter, textOfInput, partFrom};
+ghost use Rattle.gate_lines.specs.Gate.{textIn};
+ghost use Rattle.gate_lines.specs.GateCode.{TextFits};
+ghost use Rattle.gate_lines.specs.Input.{inputStateOf, inputAfter, textOfInput};
+ghost use Rattle.gate_lines.specs.InputCode.{partFrom};
 ghost use Rattle.gate_stream.specs.Stream.{readSize, replyMost, outSize, goesOn, readFails, Fed, endingText, EndsFor};
 
 // How many bytes are read at once, the most bytes that a byte of the input prints, and the room for what a block prints; `readSize`, `replyMost` and
@@ -76,7 +78,7 @@ fn add(out: &mut [u8], at: usize, text: Text) -> usize
 fn one_line(
     at: BlockState,
     cards: &mut [u64; CARDS],
-    object: &mut [u8],
+    object: &mut [u8; OBJECT],
     line: &mut [u8; HELD],
     out: &mut [u8],
     block: &[u8],
@@ -104,7 +106,7 @@ fn one_line(
 fn run_block(
     start: BlockState,
     cards: &mut [u64; CARDS],
-    object: &mut [u8],
+    object: &mut [u8; OBJECT],
     line: &mut [u8; HELD],
     out: &mut [u8],
     block: &[u8],
@@ -135,7 +137,7 @@ fn one_block(
     fd: i32,
     start: InputRun,
     cards: &mut [u64; CARDS],
-    object: &mut [u8],
+    object: &mut [u8; OBJECT],
     line: &mut [u8; HELD],
     input: &mut [u8],
     out: &mut [u8],
@@ -184,7 +186,7 @@ fn run_input(
     fd: i32,
     start: InputRun,
     cards: &mut [u64; CARDS],
-    object: &mut [u8],
+    object: &mut [u8; OBJECT],
     line: &mut [u8; HELD],
     input: &mut [u8],
     out: &mut [u8],
@@ -205,7 +207,7 @@ fn run_input(
 fn last_text(
     at: InputRun,
     cards: &mut [u64; CARDS],
-    object: &mut [u8],
+    object: &mut [u8; OBJECT],
     line: &[u8; HELD],
     out: &mut [u8],
 ) -> usize
@@ -245,12 +247,12 @@ fn failed(end: Ending) -> Ending
 fn run_whole(
     fd: i32,
     cards: &mut [u64; CARDS],
-    object: &mut [u8],
+    object: &mut [u8; OBJECT],
     line: &mut [u8; HELD],
     input: &mut [u8],
     out: &mut [u8],
 ) -> Ending
-    requires { ⌜ (length (now object) ≡ objectSize) × (length (now input) ≡ readSize) × (length (now out) ≡ outSize) ⌝ }
+    requires { ⌜ (length (now input) ≡ readSize) × (length (now out) ≡ outSize) ⌝ }
     ensures for_every_list { λ r. ⌜ EndsFor (now (object .entry)) (now (out .exit)) r ⌝ }
 {
     let state = run::start();

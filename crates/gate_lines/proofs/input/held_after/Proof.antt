@@ -1,7 +1,7 @@
 -- `gate_lines::input::held_after` meets its contract. Assumes nothing.
 use native.Mathlib.Omega.{arith}
 use borrow.Author.Needs.{needs}
-use Rattle.gate_lines.specs.Input.{heldAfter}
+use Rattle.gate_lines.specs.InputCode.{heldAfter}
 use Rattle.gate_lines.proofs.input.held_after.Statement.{statement}
 use Rattle.gate_lines.proofs.input.held_after.Tie as tie
 

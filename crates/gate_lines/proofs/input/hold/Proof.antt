@@ -6,7 +6,8 @@ use borrow.Author.Needs.{needs}
 use lib.ListN.{length, getD, length-set}
 use Rattle.common.specs.Lists.{written}
 use Rattle.common.proofs.ListsLaws.{written-none, written-more}
-use Rattle.gate_lines.specs.Input.{mostHeld, heldAfter, lineAfter}
+use Rattle.gate_lines.specs.Input.{mostHeld}
+use Rattle.gate_lines.specs.InputCode.{heldAfter, lineAfter}
 use Rattle.gate_lines.proofs.input.hold.Statement.{statement}
 use Rattle.gate_lines.proofs.input.hold.Tie as tie
 

@@ -10,7 +10,9 @@ use lib.ListN.{replicate}
 use Rattle.session.specs.Tables.{stampSize}
 use Rattle.session.specs.Operation.{stampAnswer, stampBuffer}
 use Rattle.session.specs.declared.state.Session.{Session}
-use Rattle.gate_lines.specs.Gate.{stampText, refusedText, endText}
+use Rattle.gate_lines.specs.Gate.{stampText, refusedText, replyText, textOf, endText}
+use Rattle.gate_lines.specs.declared.state.LineReply.the-variants.{Refused}
+use Rattle.gate_lines.proofs.ReplyTextLaws.{text-in, text-fits, reply-fits}
 use Rattle.gate_lines.proofs.RunLaws.{end-promise}
 use Rattle.gate_lines.proofs.reply.end_text.Statement.{statement}
 use Rattle.gate_lines.proofs.reply.end_text.Tie as tie
@@ -31,13 +33,14 @@ end-is c =
 
 returns : tie.Need-returns
 returns c =
-    let e = c .stamp-text .ensures .0 ∙ rw (eq-eqb _ _ (c .before .before .if1 .taken)) at (end-is (c .before .before .before)) in
-    (e, (c .stamp-text .ensures .1, end-promise _ _ e))
+    let e = c .stamp-text .ensures .0 ∙ ap textOf (rw (eq-eqb _ _ (c .before .before .if1 .taken)) at (end-is (c .before .before .before))) in
+    (e, (c .stamp-text .ensures .1, end-promise _ _ (text-in _ e)))
 
 returns-2 : tie.Need-returns-2
+unfolding replyText
 returns-2 c =
-    let e = c .refused-text .ensures .0 ∙ rw (ne-eqb _ _ (c .before .if1 .left)) at (end-is (c .before .before)) in
-    (e, (c .refused-text .ensures .1, end-promise _ _ e))
+    let e = c .refused-text .ensures ∙ ap textOf (rw (ne-eqb _ _ (c .before .if1 .left)) at (end-is (c .before .before))) in
+    (e, (text-fits _ 0 (c .refused-text .ensures) (reply-fits (Refused (c .before .before .number .result))), end-promise _ _ (text-in _ e)))
 
 pub end-text-spec : {M : Type 1} → statement M
 end-text-spec =

@@ -2,14 +2,14 @@
 use borrow.Author.Needs.{needs}
 use native.Mathlib.Omega.{arith}
 use mathlib.Core.Path.{_≡_, ap, _∙_}
-use mathlib.Core.List.{List, _++_}
+use mathlib.Core.List.{List, [], _++_}
 use Prim.Native.Nat.{ℕ, _+_, _*_}
-use lib.ListN.{length, replicate}
+use lib.ListN.{length, replicate, length-append}
 use Rattle.session.specs.Tables.{stampSize}
 use Rattle.text.specs.Hex.{hexOf}
 use Rattle.text.proofs.HexLaws.{length-hex}
-use Rattle.gate_lines.specs.Gate.{stampOpens, closing, stampText, textSize}
-use Rattle.gate_lines.proofs.ReplyTextLaws.{no-bytes, three, spelled}
+use Rattle.gate_lines.specs.Gate.{stampOpens, closing, stampText, textSize, textOf}
+use Rattle.gate_lines.proofs.ReplyTextLaws.{text-fits, text-with, spelled}
 use Rattle.gate_lines.proofs.reply.stamp_text.Statement.{statement}
 use Rattle.gate_lines.proofs.reply.stamp_text.Tie as tie
 
@@ -24,33 +24,34 @@ digits-long c = omega (arith, ap length (digits-are c), length-hex (c .before .b
 
 with-requires : tie.Need-with-requires
 unfolding textSize
-with-requires c κs = (c .before .no-text .ensures .1 .0, omega (arith, no-bytes _ (c .before .no-text .ensures)))
+with-requires c κs = text-fits [] _ (c .before .no-text .ensures) (omega arith)
 
--- seven bytes, and then the digits
-seven : (c : tie.After-with) → c .with .result .len ≡ 7
-seven c = omega (arith, no-bytes _ (c .before .before .no-text .ensures))
+-- the head, and the digits after it
+head-is : (c : tie.After-with) → c .with .result ≡ textOf stampOpens
+head-is c = text-with [] stampOpens (c .before .before .no-text .ensures) (c .with .ensures)
 
 with-requires-2 : tie.Need-with-requires-2
 unfolding textSize
-with-requires-2 c κs = (c .before .with .ensures .1 .0, omega (arith, seven (c .before), digits-long (c .before .before .before .before .before)))
+with-requires-2 c κs = text-fits stampOpens _ (head-is (c .before)) (omega (arith, digits-long (c .before .before .before .before .before)))
 
-both : (c : tie.After-with2) → c .with2 .result .len ≡ 7 + 2 * stampSize
-both c = omega (arith, seven (c .before .before), digits-long (c .before .before .before .before .before .before))
+both : (c : tie.After-with2) → c .with2 .result ≡ textOf (stampOpens ++ c .before .before .before .before .before .before .write .last .1 .0)
+both c = text-with stampOpens _ (head-is (c .before .before)) (c .with2 .ensures)
+
+length-both : (c : tie.After-write) → length (stampOpens ++ c .write .last .1 .0) ≡ 7 + 2 * stampSize
+length-both c = omega (arith, length-append stampOpens (c .write .last .1 .0), digits-long c)
 
 with-requires-3 : tie.Need-with-requires-3
 unfolding textSize
-with-requires-3 c κs = (c .before .with2 .ensures .1 .0, omega (arith, both (c .before)))
+with-requires-3 c κs = text-fits _ _ (both (c .before)) (omega (arith, length-both (c .before .before .before .before .before .before .before)))
 
 returns : tie.Need-returns
 unfolding stampText textSize
 returns c =
     let digits = c .before .before in
-    let head = digits .before .before in
-    let start = head .before .before in (
-      three _ _ _ _ stampOpens _ closing (start .no-text .ensures) (head .with .ensures) (digits .with2 .ensures) (c .with3 .ensures)
-          ∙ ap (λ (l : List ℕ). stampOpens ++ l ++ closing) (digits-are (start .before .before)),
-      (c .with3 .ensures .1 .0, omega (arith, both digits)),
-    )
+    let made = digits .before .before .before .before .before .before in
+    let whole = stampOpens ++ made .write .last .1 .0 in
+    let e = text-with whole closing (both digits) (c .with3 .ensures) in
+    (e ∙ ap (λ (l : List ℕ). textOf (stampOpens ++ l ++ closing)) (digits-are made), text-fits _ 0 e (omega (arith, length-append whole closing, length-both made)))
 
 pub stamp-text-spec : {M : Type 1} → statement M
 stamp-text-spec =

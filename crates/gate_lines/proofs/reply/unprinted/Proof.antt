@@ -1,7 +1,7 @@
 -- `gate_lines::reply::unprinted` meets its contract: the tests are the definition's. Assumes nothing.
 use borrow.Author.Tests.{lt-ltb, le-ltb}
 use lib.Dec.{lit≤}
-use Rattle.gate_lines.specs.Gate.{unprinted}
+use Rattle.gate_lines.specs.GateCode.{unprinted}
 use Rattle.gate_lines.proofs.reply.unprinted.Statement.{statement}
 use Rattle.gate_lines.proofs.reply.unprinted.Tie as tie
 

@@ -3,7 +3,8 @@ use mathlib.Core.Path.{refl}
 use borrow.Author.Needs.{needs}
 use borrow.Author.Tests.{lt-ltb, le-ltb}
 use native.Mathlib.Omega.{arith}
-use Rattle.gate_lines.specs.Gate.{gateAfter, replyTo, cardsAfter}
+use Rattle.gate_lines.specs.Gate.{gateAfter, replyTo}
+use Rattle.gate_lines.specs.GateCode.{cardsAfter}
 use Rattle.gate_lines.proofs.LentLaws.{card-kept, room}
 use Rattle.gate_lines.proofs.state.State.card_line.Statement.{statement}
 use Rattle.gate_lines.proofs.state.State.card_line.Tie as tie

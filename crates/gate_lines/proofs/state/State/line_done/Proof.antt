@@ -9,18 +9,19 @@ use Rattle.gate_lines.proofs.state.State.line_done.Tie as tie
 
 returns : tie.Need-returns
 returns c =
-    let a = c .before .before .before .before .before .before .before .before .args in
+    let a = c .before .before .before .before .before .args in
     let whole : take (a .held) (a .line .now) ≡ a .line .now = take-all (a .held) (a .line .now) (omega arith) in
-    rw whole (c .before .before .run-line .ensures)
+    let e = c .run-line .ensures in
+    rw whole (e .0, (e .1 .0, e .1 .1 .0))
 
 slice-aggregate-run-line : tie.Need-slice-aggregate-run-line
 slice-aggregate-run-line c = sym (length-take-le _ _ (omega arith))
 
 returns-2 : tie.Need-returns-2
-returns-2 c = c .before .before .run-line2 .ensures
+returns-2 c = let e = c .run-line2 .ensures in (e .0, (e .1 .0, e .1 .1 .0))
 
 pub line-done-spec : {M : Type 1} → statement M
 line-done-spec =
     tie.close
     (tie.spec
-    (λ c κs. search needs) (λ c. search needs) returns slice-aggregate-run-line (λ c κs. search needs) (λ c. search needs) returns-2)
+    (λ c κs. search needs) returns slice-aggregate-run-line (λ c κs. search needs) returns-2)
