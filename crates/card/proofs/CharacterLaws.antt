@@ -11,7 +11,7 @@ use lib.Dec.{ltb, lit<}
 use lib.ListN.{length, getD}
 use Rattle.common.specs.Lists.{listOf, all, number, written}
 use Rattle.card.specs.Fascn.{bitAt, valueAt, oddAt, valuesIn, charBit, sentBit, bytesOf, valuesOf}
-use Rattle.card.specs.Characters.{bitOf, regrouped, oddChar, valueChar, charOf, charsIn, charsOf, bytesOfChars}
+use Rattle.card.specs.FascnCode.{bitOf, regrouped, oddChar, valueChar, charOf, charsIn, charsOf, bytesOfChars}
 use Rattle.common.proofs.NumberLaws.{number-ext, number-lt, number-group, number-digit, number-mod, pow-mul}
 use Rattle.common.proofs.ListsLaws.{all-at, all-ext, all-of, getD-listOf, listOf-ext, listOf-is, written-ext, written-on}
 

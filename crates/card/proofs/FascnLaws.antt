@@ -12,7 +12,7 @@ use lib.Seq.{ext-getD}
 use Rattle.common.specs.Lists.{all, sameBytes}
 use Rattle.common.specs.Refusal.{refusalOf}
 use Rattle.card.specs.Fascn.{valueAt, oddAt, valuesIn, bytesOf, digitsIn, marksIn, decimalAt, checkValue, valuesOf, unpackRefusal, unpackAnswer, unpackOf, packRefusal, packOf, keyOf}
-use Rattle.card.specs.Characters.{checkDigits}
+use Rattle.card.specs.FascnCode.{checkDigits}
 use Rattle.common.proofs.ListsLaws.{all-at, all-of, length-listOf}
 use Rattle.common.proofs.NumberLaws.{number-lt}
 use Rattle.card.proofs.CharacterLaws.{values-bytes, odd-bytes, bytes-values}

@@ -11,7 +11,8 @@ use lib.Dec.{eqb}
 use lib.ListN.{length, getD, set, take, drop, replicate, length-set, take-append-drop}
 use lib.Seq.{take-suc-set, drop-set-lt, drop-cons, getD-take, drop-drop, drop-length, length-take-le, append-snoc}
 use Rattle.card.specs.Tlv.{headerOf}
-use Rattle.card.specs.Object.{mostFields, rowsOf, layoutOf, empty, absent, found, fieldFrom, rowField, fieldsFrom, fieldsAnswer, partIn}
+use Rattle.card.specs.Object.{mostFields, rowsOf, empty, absent, found, fieldFrom, rowField, fieldsFrom, fieldsAnswer, partIn}
+use Rattle.card.specs.ObjectCode.{layoutOf}
 use Rattle.card.specs.declared.tlv.Header.{Header}
 use Rattle.card.specs.declared.tlv.Header.the-variants.{Whole, Malformed}
 use Rattle.card.specs.declared.object.Kind.{Kind}

@@ -14,7 +14,7 @@ use lib.ListN.{length, getD, take, length-append, drop-of-length-le, List·getD-
 use lib.Seq.{getD-append-add, getD-take, length-take-le, take-take, split-at}
 use Rattle.common.specs.Lists.{listOf, sliceOf, all, xorOf}
 use Rattle.card.specs.Fascn.{Piece, mark, field, order, valuesFrom, digitsFrom, marksFrom, digitsIn, marksIn, decimalAt, checkValue, valuesOf}
-use Rattle.card.specs.Characters.{charOf, charsOf, marksMapped, inOrder, marksOf, checkDigits}
+use Rattle.card.specs.FascnCode.{charOf, charsOf, marksMapped, inOrder, marksOf, checkDigits}
 use Rattle.common.proofs.ListsLaws.{all-at, length-listOf, listOf-is, listOf-ext, listOf-append}
 use Rattle.common.proofs.XorLaws.{xor-assoc, xor-left-comm, xorOf-append, xorOf-lt}
 

@@ -11,7 +11,8 @@ use lib.Dec.{eqb, leb}
 use lib.ListN.{length, take, drop, length-drop}
 use lib.Seq.{drop-drop}
 use Rattle.card.specs.Tlv.{headerOf, onlyFrom, onlyOf}
-use Rattle.card.specs.Template.{aidTag, heldLeast, heldMost, Tlv, tlv, broken, tlvsFrom, tlvsOf, every, wholeTo, lengthsOf, justOne, goodValue, goodFrom, templateOf, noted, notedAll, walked}
+use Rattle.card.specs.Template.{aidTag, heldLeast, heldMost, Tlv, tlv, broken, tlvsFrom, tlvsOf, every, wholeTo, lengthsOf, justOne, goodValue, goodFrom, templateOf}
+use Rattle.card.specs.TemplateCode.{noted, notedAll, walked}
 use Rattle.card.specs.declared.tlv.Header.{Header}
 use Rattle.card.specs.declared.tlv.Header.the-variants.{Whole, Malformed}
 use Rattle.card.specs.declared.template.Walked.{Walked}

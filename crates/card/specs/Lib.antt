@@ -11,5 +11,7 @@ pub mod Object
 pub mod Date
 -- Command: commands and status words
 pub mod Command
--- Characters: how the code goes about the FASC-N; no public contract cites it
-pub mod Characters
+-- FascnCode, TemplateCode, ObjectCode: how the code goes about it; no public contract cites them
+pub mod FascnCode
+pub mod TemplateCode
+pub mod ObjectCode

@@ -15,7 +15,6 @@ use Rattle.card.specs.declared.tlv.Header.the-variants.{Whole, Malformed
 use Rattle.card.specs.declared.object.Kind.{Kind}
 use Rattle.card.specs.declared.object.Kind.the-variants.{Signed, Unsigned, Fingers}
 use Rattle.card.specs.declared.object.Row.{Row}
-use Rattle.card.specs.declared.object.Layout.{Layout}
 use Rattle.card.specs.declared.object.Part.{Part}
 use Rattle.card.specs.declared.object.Field.{Field}
 use Rattle.card.specs.declared.object.Object.{Object}
@@ -85,15 +84,6 @@ rowsOf Fingers = required fingersTag 1 862 ∷ optional endTag 0 0 ∷ []
 -- The most fields that an object has. A layout has as many rows, and an answer as many parts.
 abbrev pub mostFields : ℕ
 mostFields = 5
-
--- How the code keeps them, no public contract cites this: the rows of an object and how many they are, filled up to the most with rows that are none of its.
-abbrev pub noRow : Row
-noRow = required 0 0 0
-
-unfoldable pub layoutOf : Kind → Layout
-layoutOf k =
-    let rows = rowsOf k in
-    record { n = length rows; rows = rows ++ replicate (mostFields - length rows) noRow }
 
 -- The tag by which GET DATA asks for the object.
 unfoldable pub objectTag : Kind → List ℕ

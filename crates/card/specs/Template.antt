@@ -9,7 +9,6 @@ use lib.ListN.{length, take, drop}
 use Rattle.card.specs.Tlv.{headerOf, onlyOf}
 use Rattle.card.specs.declared.tlv.Header.{Header}
 use Rattle.card.specs.declared.tlv.Header.the-variants.{Whole, Malformed}
-use Rattle.card.specs.declared.template.Walked.{Walked}
 use Rattle.card.specs.declared.template.TemplateAnswer.{TemplateAnswer}
 use Rattle.card.specs.declared.template.TemplateAnswer.the-variants as template-answers
 
@@ -103,19 +102,3 @@ templateOf s = cond (goodFrom (onlyOf templateTag s) s) 0 malformedTemplate
 abbrev pub templateNumber : TemplateAnswer → ℕ
 templateNumber template-answers.Accepted = 0
 templateNumber template-answers.Malformed = malformedTemplate
-
--- ---- how the code goes about it; no public contract cites this
-
--- The 4Fs met so far, with one TLV more: 0 none, 1 just one, of 1 to 16 bytes, 2 any others.
-unfoldable pub noted : ℕ → ℕ → ℕ → ℕ
-noted n tag len = cond (eqb tag aidTag) (cond (eqb n 0 && leb heldLeast len && leb len heldMost) 1 2) n
-
--- The same over TLVs.
-unfoldable pub notedAll : ℕ → List Tlv → ℕ
-notedAll n [] = n
-notedAll n (broken ∷ ts) = notedAll n ts
-notedAll n (tlv tag nested value ∷ ts) = notedAll (noted n tag (length value)) ts
-
--- What a walk of s finds, d levels deep, the 4Fs met before it being n.
-unfoldable pub walked : ℕ → ℕ → List ℕ → Walked
-walked d n s = record { whole = wholeTo d s; aids = cond (wholeTo d s) (notedAll n (tlvsOf s)) 0 }

@@ -7,7 +7,8 @@ use crate::tlv::Header;
 ghost use mathlib.Core.Path.{_≡_};
 ghost use Prim.Native.Nat.{_+_, _≤_, _<_, _^_};
 ghost use lib.ListN.{length};
-ghost use Rattle.card.specs.Object.{rowsOf, layoutOf, rowField, fieldsFrom, fieldsAnswer, objectNumber, objectAnswer, objectOf, partIn};
+ghost use Rattle.card.specs.Object.{rowsOf, rowField, fieldsFrom, fieldsAnswer, objectNumber, objectAnswer, objectOf, partIn};
+ghost use Rattle.card.specs.ObjectCode.{layoutOf};
 
 // The objects that a reading asks for: 5FC102, 5FC104 and DFC103.
 pub enum Kind {

@@ -3,7 +3,8 @@ use crate::bytes;
 use crate::tlv;
 use crate::tlv::Header;
 ghost use mathlib.Core.Path.{_≡_};
-ghost use Rattle.card.specs.Template.{noted, walked, templateNumber, templateOf};
+ghost use Rattle.card.specs.Template.{templateNumber, templateOf};
+ghost use Rattle.card.specs.TemplateCode.{noted, walked};
 
 // The tag of a template, and that of an application identifier in it; `templateTag` and `aidTag` in the definitions.
 pub const TEMPLATE_TAG: usize = 0x61;

@@ -7,7 +7,7 @@ ghost use Prim.Native.Nat.{_+_, _-_, _*_, _%_, _/_, _^_, _<_};
 ghost use lib.ListN.{length, getD};
 ghost use Rattle.common.specs.Lists.{listOf, all, number, written};
 ghost use Rattle.card.specs.Fascn.{fascnBytes, fascnCharacters};
-ghost use Rattle.card.specs.Characters.{Readable, Writable, oddChar, valueChar, charOf, charsIn, bytesOfChars};
+ghost use Rattle.card.specs.FascnCode.{Readable, Writable, oddChar, valueChar, charOf, charsIn, bytesOfChars};
 
 pub(crate) fn wide(x: u8) -> u64
     ensures { λ r. ⌜ (r ≡ x) × (r < 256) ⌝ }

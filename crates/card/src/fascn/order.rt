@@ -8,7 +8,7 @@ ghost use mathlib.Core.Path.{_≡_};
 ghost use lib.ListN.{getD};
 ghost use Rattle.common.specs.Lists.{listOf, all};
 ghost use Rattle.card.specs.Fascn.{fascnDigits, digitsIn, marksIn, decimalAt};
-ghost use Rattle.card.specs.Characters.{charOf, inOrder, checkDigits, charsOf};
+ghost use Rattle.card.specs.FascnCode.{charOf, inOrder, checkDigits, charsOf};
 
 // The values of the start sentinel, the field separator and the end sentinel; `startValue`, `separatorValue` and `endValue` in the definitions.
 const SS: u8 = 11;

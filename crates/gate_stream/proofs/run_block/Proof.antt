@@ -62,10 +62,13 @@ loop-again c =
     let o = done .ensures .1 .1 .1 in
     let h : u ≤ v = omega (arith, o) in
     let t = text-part (from first) _ (a .block .now) u v h (i .2) in
-    let before = textOfInput (from first) (take u (a .block .now)) in
-    (search needs, o .1, fed-part (from first) _ _ (a .block .now) u v h (i .2) (done .ensures .0),
-    done .ensures .1 .0 ∙ over-next before _ (a .out .now) (i .3) (i .4) ∙ ap (λ (x : List ℕ). overFront x (a .out .now)) t,
-    long-part before _ (i .4) (done .ensures .1 .1 .0) t)
+    let before = textOfInput (from first) (take u (a .block .now)) in (
+      search needs,
+      o .1,
+      fed-part (from first) _ _ (a .block .now) u v h (i .2) (done .ensures .0),
+      done .ensures .1 .0 ∙ over-next before _ (a .out .now) (i .3) (i .4) ∙ ap (λ (x : List ℕ). overFront x (a .out .now)) t,
+      long-part before _ (i .4) (done .ensures .1 .1 .0) t,
+    )
 
 returns : tie.Need-returns Inv-loop μ-loop
 returns c =
@@ -75,9 +78,13 @@ returns c =
     let m = from first in
     let i = at .loop .inv in
     let whole = take-all (at .loop .at .used) (a .block .now) (c .if1 .left) in
-    let long = i .4 ∙ ap (λ (l : List ℕ). length (textOfInput m l)) whole in
-    (i .2 ∙ ap (inputAfter m) whole, (i .3 ∙ ap (λ (l : List ℕ). overFront (textOfInput m l) (a .out .now)) whole,
-    (long, omega (arith, long, text-small (a .block .now) m, first .pre .3))))
+    let long = i .4 ∙ ap (λ (l : List ℕ). length (textOfInput m l)) whole in (
+      i .2 ∙ ap (inputAfter m) whole,
+      (
+        i .3 ∙ ap (λ (l : List ℕ). overFront (textOfInput m l) (a .out .now)) whole,
+        (long, omega (arith, long, text-small (a .block .now) m, first .pre .3)),
+      ),
+    )
 
 pub run-block-spec : {M : Type 1} → statement M
 run-block-spec = tie.close (tie.spec Inv-loop μ-loop loop-holds one-line-requires loop-less loop-again (λ c. search needs) returns)

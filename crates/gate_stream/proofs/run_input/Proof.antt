@@ -55,9 +55,11 @@ loop-again c =
     let turns = at .loop .turns in
     let go = test .if1 .taken in
     let going = sym (go-on (test .before)) ∙ and-right (ltb 0 turns) (test .before .goes-on .result) go in
-    let same : length (done .last .1 .1 .1 .1 .1 .0) ≡ length (at .loop .input) = done .kept .1 .1 .1 .1 .1 .0 in
-    (search needs, search needs,
-    fed-block turns _ _ _ _ _ _ readSize _ (at .loop .inv .2) going (omega arith) (same ∙ at .loop .inv .0 ∙ first .pre .0) (ltb-true 0 _ (and-left _ _ go)) (done .ensures .0))
+    let same : length (done .last .1 .1 .1 .1 .1 .0) ≡ length (at .loop .input) = done .kept .1 .1 .1 .1 .1 .0 in (
+      search needs,
+      search needs,
+      fed-block turns _ _ _ _ _ _ readSize _ (at .loop .inv .2) going (omega arith) (same ∙ at .loop .inv .0 ∙ first .pre .0) (ltb-true 0 _ (and-left _ _ go)) (done .ensures .0),
+    )
 
 returns : tie.Need-returns Inv-loop μ-loop
 returns c = fed-end _ _ _ _ (c .before .before .before .loop .inv .2) (rw (← go-on (c .before)) (c .if1 .left))

@@ -5,7 +5,8 @@ use Prim.Native.Nat.{_-_, _≤_}
 use native.Mathlib.Omega.{arith}
 use lib.Dec.{eqb}
 use lib.ListN.{length, getD, take, replicate}
-use Rattle.card.specs.Object.{mostFields, noRow, empty, rowsOf, rowField, fieldsFrom, fieldsAnswer}
+use Rattle.card.specs.Object.{mostFields, empty, rowsOf, rowField, fieldsFrom, fieldsAnswer}
+use Rattle.card.specs.ObjectCode.{noRow}
 use Rattle.card.proofs.FieldLaws.{laid-out, row-at, Read, read-none, read-more, read-all}
 use Rattle.card.proofs.object.fields.Statement.{statement}
 use Rattle.card.proofs.object.fields.Tie as tie

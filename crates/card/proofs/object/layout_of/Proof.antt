@@ -1,6 +1,7 @@
 -- `card::object::layout_of` meets its contract: the layout is that of the definition. Assumes nothing.
 use borrow.Author.Needs.{needs}
-use Rattle.card.specs.Object.{rowsOf, layoutOf}
+use Rattle.card.specs.Object.{rowsOf}
+use Rattle.card.specs.ObjectCode.{layoutOf}
 use Rattle.card.proofs.object.layout_of.Statement.{statement}
 use Rattle.card.proofs.object.layout_of.Tie as tie
 

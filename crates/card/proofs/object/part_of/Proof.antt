@@ -6,7 +6,8 @@ use native.Mathlib.Numerals.{add-one}
 use native.Mathlib.Omega.{arith}
 use lib.ListN.{length, getD, take, drop, drop-of-length-le}
 use lib.Seq.{drop-cons}
-use Rattle.card.specs.Object.{mostFields, noRow, empty, partIn}
+use Rattle.card.specs.Object.{mostFields, empty, partIn}
+use Rattle.card.specs.ObjectCode.{noRow}
 use Rattle.card.proofs.FieldLaws.{laid-out, row-at, part-none, part-here, part-end}
 use Rattle.card.proofs.object.part_of.Statement.{statement}
 use Rattle.card.proofs.object.part_of.Tie as tie

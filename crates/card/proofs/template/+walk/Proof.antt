@@ -10,7 +10,7 @@ use borrow.Fn.Kinds.{In}
 use borrow.Fn.PlainCycle.{Measures, is, falls, and}
 use lib.ListN.{length, drop}
 use Rattle.card.specs.Tlv.{headerOf}
-use Rattle.card.specs.Template.{walked}
+use Rattle.card.specs.TemplateCode.{walked}
 use Rattle.card.specs.declared.tlv.Header.the-variants.{Whole}
 use Rattle.card.proofs.TlvLaws.{place-inside, header-start, known}
 use Rattle.card.proofs.TemplateLaws.{walk-end, walk-deep, walk-bad, walk-past, walk-broken, plain-passes, nested-passes, nested-fails}

@@ -3,7 +3,8 @@ use mathlib.Core.Path.{_≡_}
 use mathlib.Core.Bool.{true, false, _&&_}
 use borrow.Author.Tests.{eq-eqb, ne-eqb}
 use lib.Dec.{eqb, leb}
-use Rattle.card.specs.Template.{heldLeast, heldMost, noted}
+use Rattle.card.specs.Template.{heldLeast, heldMost}
+use Rattle.card.specs.TemplateCode.{noted}
 use Rattle.card.proofs.template.note.Statement.{statement}
 use Rattle.card.proofs.template.note.Tie as tie
 

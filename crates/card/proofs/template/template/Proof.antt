@@ -5,7 +5,8 @@ use native.Mathlib.Omega.{arith}
 use borrow.Author.Needs.{needs}
 use lib.Dec.{eqb}
 use Rattle.card.specs.Tlv.{onlyOf}
-use Rattle.card.specs.Template.{templateTag, goodFrom, templateOf, walked}
+use Rattle.card.specs.Template.{templateTag, goodFrom, templateOf}
+use Rattle.card.specs.TemplateCode.{walked}
 use Rattle.card.specs.declared.tlv.Header.the-variants.{Whole}
 use Rattle.card.proofs.TlvLaws.{only-is}
 use Rattle.card.proofs.TemplateLaws.{good-is}

@@ -5,7 +5,7 @@ use native.Mathlib.Omega.{arith}
 use borrow.Author.Needs.{needs}
 use lib.ListN.{getD}
 use Rattle.common.specs.Lists.{all}
-use Rattle.card.specs.Characters.{oddChar}
+use Rattle.card.specs.FascnCode.{oddChar}
 use Rattle.common.proofs.ListsLaws.{all-more}
 use Rattle.card.proofs.fascn.characters.all_odd.Statement.{statement}
 use Rattle.card.proofs.fascn.characters.all_odd.Tie as tie

@@ -5,7 +5,7 @@ use native.Mathlib.Omega.{arith}
 use borrow.Author.Needs.{needs}
 use lib.ListN.{length, replicate}
 use Rattle.common.specs.Lists.{written}
-use Rattle.card.specs.Characters.{regrouped, bytesOfChars}
+use Rattle.card.specs.FascnCode.{regrouped, bytesOfChars}
 use Rattle.common.proofs.ListsLaws.{written-none, front-end}
 use Rattle.card.proofs.CharacterLaws.{regrouped-back}
 use Rattle.card.proofs.fascn.characters.bytes_of.Statement.{statement}

@@ -7,7 +7,7 @@ use borrow.Author.Needs.{needs}
 use lib.ListN.{getD}
 use Rattle.common.specs.Lists.{number}
 use Rattle.card.specs.Fascn.{charBit}
-use Rattle.card.specs.Characters.{charOf}
+use Rattle.card.specs.FascnCode.{charOf}
 use native.Mathlib.Nat.{div-one}
 use Rattle.card.proofs.fascn.characters.character_of.Statement.{statement}
 use Rattle.card.proofs.fascn.characters.character_of.Tie as tie

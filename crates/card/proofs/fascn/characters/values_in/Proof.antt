@@ -5,7 +5,7 @@ use native.Mathlib.Omega.{arith}
 use borrow.Author.Needs.{needs}
 use lib.ListN.{getD, replicate}
 use Rattle.common.specs.Lists.{written}
-use Rattle.card.specs.Characters.{valueChar}
+use Rattle.card.specs.FascnCode.{valueChar}
 use Rattle.common.proofs.ListsLaws.{written-none, front-more, front-end}
 use Rattle.card.proofs.fascn.characters.values_in.Statement.{statement}
 use Rattle.card.proofs.fascn.characters.values_in.Tie as tie

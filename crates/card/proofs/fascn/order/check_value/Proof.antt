@@ -7,7 +7,7 @@ use lib.Bits.{bitXor}
 use lib.ListN.{getD}
 use Rattle.common.specs.Lists.{listOf, xorOf}
 use Rattle.card.specs.Fascn.{order}
-use Rattle.card.specs.Characters.{marksOf, checkDigits}
+use Rattle.card.specs.FascnCode.{marksOf, checkDigits}
 use Rattle.common.proofs.XorLaws.{xorOf-more}
 use Rattle.card.proofs.fascn.order.check_value.Statement.{statement}
 use Rattle.card.proofs.fascn.order.check_value.Tie as tie

@@ -5,7 +5,7 @@ use native.Mathlib.Omega.{arith}
 use borrow.Author.Needs.{needs}
 use lib.ListN.{getD, replicate}
 use Rattle.common.specs.Lists.{written}
-use Rattle.card.specs.Characters.{charOf}
+use Rattle.card.specs.FascnCode.{charOf}
 use Rattle.common.proofs.ListsLaws.{written-none, front-more, front-end}
 use Rattle.card.proofs.fascn.order.digit_characters.Statement.{statement}
 use Rattle.card.proofs.fascn.order.digit_characters.Tie as tie

@@ -2,7 +2,7 @@
 use borrow.Author.Needs.{needs}
 use Rattle.common.specs.Lists.{listOf, sliceOf, written}
 use Rattle.card.specs.Fascn.{valuesFrom}
-use Rattle.card.specs.Characters.{inOrder, marksMapped}
+use Rattle.card.specs.FascnCode.{inOrder, marksMapped}
 use Rattle.card.proofs.fascn.order.in_order.Statement.{statement}
 use Rattle.card.proofs.fascn.order.in_order.Tie as tie
 

@@ -1,4 +1,4 @@
--- How the code goes about it: a character as one number of five bits, the bit sent first highest. No contract of a public function cites this.
+-- How the code goes about the FASC-N: a character as one number of five bits, the bit sent first highest. No public contract cites it.
 -- Assumes nothing.
 use mathlib.Core.Path.{_≡_}
 use mathlib.Core.Bool.{Bool, cond}

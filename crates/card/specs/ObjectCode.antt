@@ -1,0 +1,18 @@
+-- How the code keeps the rows of an object. No public contract cites it.
+-- Assumes nothing.
+use mathlib.Core.List.{List, _++_}
+use Prim.Native.Nat.{_-_}
+use lib.ListN.{length, replicate}
+use Rattle.card.specs.Object.{mostFields, required, rowsOf}
+use Rattle.card.specs.declared.object.Kind.{Kind}
+use Rattle.card.specs.declared.object.Row.{Row}
+use Rattle.card.specs.declared.object.Layout.{Layout}
+
+-- A row that is none of an object's; and the rows of an object, filled up to the most with it, and how many they are.
+abbrev pub noRow : Row
+noRow = required 0 0 0
+
+unfoldable pub layoutOf : Kind → Layout
+layoutOf k =
+    let rows = rowsOf k in
+    record { n = length rows; rows = rows ++ replicate (mostFields - length rows) noRow }
