@@ -6,7 +6,12 @@ use Rattle.session.proofs.range.Values.out_of_range.Tie as tie
 
 returns : tie.Need-returns
 unfolding valuesInRange
-returns c = rw (c .before .before .before .before .before .before .before .before .before .before .before .before .before .before .before .mode-in-range .ensures, c .before .before .before .before .before .before .before .before .before .before .before .before .before .before .real .ensures, c .before .before .before .before .before .before .before .before .before .before .before .before .before .good-aid .ensures, c .before .before .before .before .before .before .before .before .before .before .before .ends .ensures, c .before .before .before .before .before .before .before .before .has-step2 .ensures, c .before .before .before .before .capacity .ensures, c .before .before .expiry-in-range .ensures, c .outcomes-in-range .ensures)
+returns c =
+    let room = c .before .before .before .before in
+    let step = room .before .before .before .before in
+    let place = step .before .before .before in
+    let aid = place .before .before in
+    rw (aid .before .before .mode-in-range .ensures, aid .before .real .ensures, aid .good-aid .ensures, place .ends .ensures, step .has-step2 .ensures, room .capacity .ensures, c .before .before .expiry-in-range .ensures, c .outcomes-in-range .ensures)
 
 pub out-of-range-spec : {M : Type 1} → statement M
 out-of-range-spec =

@@ -27,21 +27,22 @@ unfolding objectSize
 returns c = let a = c .before .before .before .before .before .before .before .args in field-both _ _ _ _ (field-refused (a .self) (a .object .now) (a .tag) (tests (c .before .before) (c .before .if1 .taken)))
 
 -- past the tests: the session is in range, the buffer has its size
-accepted : (c : tie.After-base-of) → let a = c .before .before .before .before .before .before .before .before .args in (inRange (a .self) ≡ true) × (length (a .object .now) ≡ objectSize)
+accepted : (c : tie.After-base-of) → let tested = c .before .before .before in let a = tested .before .before .before .before .before .args in (inRange (a .self) ≡ true) × (length (a .object .now) ≡ objectSize)
 unfolding objectSize
-accepted c = let a = c .before .before .before .before .before .before .before .before .args in field-accepted (a .self) (length (a .object .now)) (a .tag) (tests (c .before .before .before) (c .before .before .if1 .left))
+accepted c = let tested = c .before .before .before in let a = tested .before .before .before .before .before .args in field-accepted (a .self) (length (a .object .now)) (a .tag) (tests tested (c .before .before .if1 .left))
 
 -- and the part ends inside it
-ends : (c : tie.After-base-of) → let p = c .before .part-for .result in c .base-of .result + (p .start + p .len) ≤ length (c .before .before .before .before .before .before .before .before .args .object .now)
+ends : (c : tie.After-base-of) → let p = c .before .part-for .result in let tested = c .before .before .before in c .base-of .result + (p .start + p .len) ≤ length (tested .before .before .before .before .before .args .object .now)
 ends c =
-    let a = c .before .before .before .before .before .before .before .before .args in
-    rw (c .base-of .ensures, c .before .part-for .ensures, accepted c .1) (part-in-range (a .self) (c .before .before .before .before .before .before .step-of-tag .result) (a .tag) (accepted c .0))
+    let tested = c .before .before .before in
+    let a = tested .before .before .before .before .before .args in
+    rw (c .base-of .ensures, c .before .part-for .ensures, accepted c .1) (part-in-range (a .self) (tested .before .before .before .step-of-tag .result) (a .tag) (accepted c .0))
 
 add-start : tie.Need-add-start
-add-start c = omega (arith, ends (c .before), c .before .before .before .before .before .before .before .before .before .good)
+add-start c = let based = c .before in let tested = based .before .before .before in omega (arith, ends based, tested .before .before .before .before .before .good)
 
 add-end : tie.Need-add-end
-add-end c = omega (arith, ends (c .before .before), c .before .before .before .before .before .before .before .before .before .before .good)
+add-end c = let based = c .before .before in let tested = based .before .before .before in omega (arith, ends based, tested .before .before .before .before .before .good)
 
 part-result-end : tie.Need-part-result-end
 part-result-end c = omega (arith, ends (c .before .before))
@@ -49,11 +50,12 @@ part-result-end c = omega (arith, ends (c .before .before))
 returns-2 : tie.Need-returns-2
 unfolding objectSize
 returns-2 c =
-    let at = c .before .before .before in
-    let a = c .before .before .before .before .before .before .before .before .before .before .before .args in
+    let based = c .before .before .before in
+    let tested = based .before .before .before in
+    let a = tested .before .before .before .before .before .args in
     field-both _ _ _ _
-    (part-in-buffer (a .object .now) (at .base-of .result) (at .before .part-for .result)
-    ∙ rw (at .base-of .ensures, at .before .part-for .ensures, c .before .before .before .before .before .before .before .before .before .step-of-tag .ensures) (field-read (a .self) (a .object .now) (a .tag) (tests (at .before .before .before) (c .before .before .before .before .before .if1 .left))))
+    (part-in-buffer (a .object .now) (based .base-of .result) (based .before .part-for .result)
+    ∙ rw (based .base-of .ensures, based .before .part-for .ensures, tested .before .before .before .step-of-tag .ensures) (field-read (a .self) (a .object .now) (a .tag) (tests tested (based .before .before .if1 .left))))
 
 pub field-spec : {M : Type 1} → statement M
 field-spec =

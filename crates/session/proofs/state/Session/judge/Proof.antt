@@ -21,9 +21,10 @@ returns-2 c =
 
 judge-step1-requires : tie.Need-judge-step1-requires
 judge-step1-requires c κs =
-    let a = c .before .before .before .before .before .before .before .before .before .args in
-    let e : objectAnswer (c .before .before .before .before .parse .result) ≡ objectOf (kindAt (a .self .opening .mode) 1) (a .joined .now) = rw (c .if3 .taken) at (object-is (c .before .before .before .before)) in
-    (c .if3 .taken, sym e ∙ ap (λ (n : ℕ). (n, c .before .before .before .before .parse .result .parts)) (sym (c .before .before .before .number .ensures) ∙ c .before .before .if2 .left))
+    let parsed = c .before .before .before .before in
+    let a = parsed .before .before .before .before .before .args in
+    let e : objectAnswer (parsed .parse .result) ≡ objectOf (kindAt (a .self .opening .mode) 1) (a .joined .now) = rw (c .if3 .taken) at (object-is parsed) in
+    (c .if3 .taken, sym e ∙ ap (λ (n : ℕ). (n, parsed .parse .result .parts)) (sym (c .before .before .before .number .ensures) ∙ c .before .before .if2 .left))
 
 returns-4 : tie.Need-returns-4
 unfolding judgedSession joinedCause objectCause goodEndSession

@@ -17,7 +17,7 @@ use Rattle.session.proofs.RuleLaws.{rule-fits}
 use Rattle.session.proofs.state.Session.take_answer.Statement.{statement}
 use Rattle.session.proofs.state.Session.take_answer.Tie as tie
 
-end-fits : (c : tie.After-base-of) → let a = c .before .before .before .before .before .before .before .before .before .args in c .base-of .result + a .self .progress .filled + length (a .bytes .now) ≤ objectSize
+end-fits : (c : tie.After-base-of) → let tested = c .before .before in let a = tested .before .before .before .before .before .before .before .args in c .base-of .result + a .self .progress .filled + length (a .bytes .now) ≤ objectSize
 end-fits c =
     let tested = c .before .before in
     let s = tested .before .before .before .before .before .before .before .args .self in
@@ -33,11 +33,12 @@ add-at : tie.Need-add-at
 add-at c = omega (arith, object-small, end-fits (c .before))
 
 -- what is stored fits
-stored : (c : tie.After-store) → let based = c .before .before .before in let a = based .before .before .before .before .before .before .before .before .before .args in
+stored : (c : tie.After-store) → let based = c .before .before .before in let tested = based .before .before in let a = tested .before .before .before .before .before .before .before .args in
     c .store .last .0 ≡ overPlaces (a .object .now) (based .base-of .result + a .self .progress .filled) (a .bytes .now)
 stored c =
     let based = c .before .before .before in
-    let first = based .before .before .before .before .before .before .before .before .before in
+    let tested = based .before .before in
+    let first = tested .before .before .before .before .before .before .before in
     c .store .ensures ∙ store-fits (first .args .object .now) (first .args .bytes .now) (based .base-of .result + first .args .self .progress .filled) (omega (arith, end-fits based, first .pre .0))
 
 add-end : tie.Need-add-end
@@ -52,7 +53,8 @@ part-appended-end c =
 
 appended-requires : tie.Need-appended-requires
 appended-requires c κs =
-    let tested = c .before .before .before .before .before .before .before .before .before in
+    let based = c .before .before .before .before .before .before .before in
+    let tested = based .before .before in
     let first = tested .before .before .before .before .before .before .before in
     let s = first .args .self in
     omega (arith, base-fits (s .opening .mode) (s .progress .step), object-small, first .pre)

@@ -36,13 +36,13 @@ returns-3 c = rw (past-step (c .before .before)) (simp (sym (c .before .good-kin
 returns-4 : tie.Need-returns-4
 returns-4 c = rw (past-step (c .before .before .before)) (simp (sym (c .before .before .good-kind .ensures), c .before .if3 .left, c .if4 .taken))
 
-number-is : (c : tie.After-number) → unpackOf (c .before .before .before .before .before .before .before .before .before .before .before .args .fascn .now) .0 ≡ c .number .result
+number-is : (c : tie.After-number) → let at-step = c .before .before .before .before .before in unpackOf (at-step .before .before .before .before .before .before .args .fascn .now) .0 ≡ c .number .result
 number-is c = rw (← c .before .unpack .ensures) (sym (c .number .ensures))
 
 returns-5 : tie.Need-returns-5
 returns-5 c = rw (past-step (c .before .before .before .before .before .before)) (simp (sym (c .before .before .before .before .before .good-kind .ensures), c .before .before .before .before .if3 .left, c .before .before .before .if4 .left, number-is (c .before), ne-eqb _ _ (c .if5 .taken)))
 
-past-fascn : (c : tie.Else5) → let a = c .before .before .before .before .before .before .before .before .before .before .before .before .args in verdictRefusal (a .self) (a .kind) (a .yes) (a .fascn .now) ≡ past 4 (a .self) (a .kind) (a .yes) (a .fascn .now)
+past-fascn : (c : tie.Else5) → let at-step = c .before .before .before .before .before .before in let a = at-step .before .before .before .before .before .before .args in verdictRefusal (a .self) (a .kind) (a .yes) (a .fascn .now) ≡ past 4 (a .self) (a .kind) (a .yes) (a .fascn .now)
 past-fascn c = rw (past-step (c .before .before .before .before .before .before)) (simp (sym (c .before .before .before .before .before .good-kind .ensures), c .before .before .before .before .if3 .left, c .before .before .before .if4 .left, number-is (c .before), eq-eqb _ _ (c .if5 .left)))
 
 returns-6 : tie.Need-returns-6

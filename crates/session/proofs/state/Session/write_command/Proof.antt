@@ -10,8 +10,11 @@ use Rattle.session.proofs.SendLaws.{select-next, get-data-next, get-res
 use Rattle.session.proofs.state.Session.write_command.Statement.{statement}
 use Rattle.session.proofs.state.Session.write_command.Tie as tie
 
-aid-inside : (c : tie.After-sized-aid) → let s = c .before .before .before .before .before .before .before .before .before .args .self in s .opening .«aid_len» ≤ length (s .opening .aid)
-aid-inside c = omega (arith, aid-in-range (c .before .before .before .before .before .before .before .before .before .args .self) (c .before .before .before .before .before .before .before .before .before .pre) .1, c .sized-aid .ensures)
+aid-inside : (c : tie.After-sized-aid) → let told = c .before .before .before .before in let s = told .before .before .before .before .before .args .self in s .opening .«aid_len» ≤ length (s .opening .aid)
+aid-inside c =
+    let told = c .before .before .before .before in
+    let start = told .before .before .before .before .before in
+    omega (arith, aid-in-range (start .args .self) (start .pre) .1, c .sized-aid .ensures)
 
 array-share-prefix-aid : tie.Need-array-share-prefix-aid
 array-share-prefix-aid c = aid-inside c
@@ -21,14 +24,16 @@ slice-aggregate-select c = sym (length-take-le _ _ (aid-inside (c .before)))
 
 returns : tie.Need-returns
 returns c =
-    let at = c .before .before .before .before .before in
-    c .before .before .select .ensures ∙ select-next _ _ (at .before .before .before .before .before .before .before .before .before .pre) (at .sized-aid .ensures) (at .before .before .before .before .enum-told .given .1) (at .before .before .if1 .taken)
+    let sized = c .before .before .before .before .before in
+    let told = sized .before .before .before .before in
+    c .before .before .select .ensures ∙ select-next _ _ (told .before .before .before .before .before .pre) (sized .sized-aid .ensures) (told .enum-told .given .1) (sized .before .before .if1 .taken)
 
 returns-2 : tie.Need-returns-2
 returns-2 c =
-    let at = c .before .before .before .before in
-    let a = at .before .before .before .before .before .before .before .before .args in
-    c .before .before .get-data .ensures ∙ rw (at .kind-at .ensures) (get-data-next (a .self) (a .out .now) (at .before .before .before .enum-told .given .1) (at .before .if1 .left))
+    let kind = c .before .before .before .before in
+    let told = kind .before .before .before in
+    let a = told .before .before .before .before .before .args in
+    c .before .before .get-data .ensures ∙ rw (kind .kind-at .ensures) (get-data-next (a .self) (a .out .now) (told .enum-told .given .1) (kind .before .if1 .left))
 
 returns-3 : tie.Need-returns-3
 returns-3 c = c .before .before .get-response .ensures ∙ get-response-next _ _ (c .before .before .before .before .before .next .given .1)
