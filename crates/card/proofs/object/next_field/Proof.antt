@@ -16,14 +16,14 @@ whole-is : (c : tie.After-tag) → let x = c .tag .given .0 in Whole (x .0) (x .
 whole-is c = known (c .tag .given .1) (c .before .before .header-of .ensures) (c .before .before .before .rest .ensures)
 
 returns : tie.Need-returns
-returns c = let a = c .before .before .before .before .before .before .before .before .args in (field-other (a .v .now) (a .base) (a .row) (a .at) (whole-is (c .before .before .before)) (c .if1 .taken), omega arith)
+returns c = let arm = c .before .before .before in let a = arm .before .before .before .before .before .args in (field-other (a .v .now) (a .base) (a .row) (a .at) (whole-is arm) (c .if1 .taken), omega arith)
 
 -- the field ends within v
 field-fits : (c : tie.After-tag) → let x = c .tag .given .0 in c .before .before .before .before .before .args .at + x .1 .1 .0 + x .1 .1 .1 .0 ≤ length (c .before .before .before .before .before .args .v .now)
 field-fits c = let a = c .before .before .before .before .before .args in place-inside (a .v .now) (a .at) (whole-is c) (c .before .before .before .before .before .pre .0)
 
 returns-2 : tie.Need-returns-2
-returns-2 c = let a = c .before .before .before .before .before .before .before .before .before .before .args in (field-found (a .v .now) (a .base) (a .row) (a .at) (whole-is (c .before .before .before .before .before)) (c .before .before .if1 .left), field-fits (c .before .before .before .before .before))
+returns-2 c = let arm = c .before .before .before .before .before in let a = arm .before .before .before .before .before .args in (field-found (a .v .now) (a .base) (a .row) (a .at) (whole-is arm) (c .before .before .if1 .left), field-fits arm)
 
 returns-3 : tie.Need-returns-3
 returns-3 c = let a = c .before .before .before .before .before .args in (field-none (a .v .now) (a .base) (a .row) (a .at) (known (c .enum-told .given .1) (c .before .before .header-of .ensures) (c .before .before .before .rest .ensures)), omega arith)

@@ -91,7 +91,7 @@ pub +walk-spec : {M : Type 1} → statement M
     (λ c. search needs)
     (λ c. omega (arith, met-end t (c .before)))
     (λ c. search needs)
-    (λ c κs. (omega (arith, c .before .before .before .before .before .before .before .before .before .before .before .pre .0), tt))
+    (λ c κs. let m = c .before .before in let at = m .before .before .before .before .before .before .before in (omega (arith, at .before .before .pre .0), tt))
     (λ c.
     let m = c .before .before .before .before .before in
     let at = m .before .before .before .before .before .before .before in

@@ -14,7 +14,8 @@ returns-2 c = let a = c .before .before .before .before .args in sym (store-not 
 
 returns-3 : tie.Need-returns-3
 returns-3 c =
-    let a = c .before .before .before .before .before .before .before .before .args in
+    let tested = c .before .before .before .before in
+    let a = tested .before .before .before .before .args in
     part-over (a .out .now) (a .s .now) (a .at) (c .before .before .copy .ensures .1 ∙ copied (a .s .now) _) ∙ sym (store-fits (a .out .now) (a .s .now) (a .at) (omega arith))
 
 pub store-spec : {M : Type 1} → statement M
