@@ -37,8 +37,9 @@ returns-2 c =
 returns-3 : tie.Need-returns-3
 unfolding headed
 returns-3 c =
-    let a = c .before .before .before .before .before .before .before .before .before .before .args in
-    let b : between (a .lowest .now) (a .highest .now) (take (length (a .lowest .now)) (a .s .now)) ≡ true = sym (c .before .before .before .before .between .ensures) ∙ not-false _ (c .before .before .before .if2 .left) in
+    let tested = c .before .before .before in
+    let a = tested .before .before .before .before .before .before .before .args in
+    let b : between (a .lowest .now) (a .highest .now) (take (length (a .lowest .now)) (a .s .now)) ≡ true = sym (tested .before .between .ensures) ∙ not-false _ (tested .if2 .left) in
     rw (le-leb (length (a .lowest .now) + 3) (length (a .s .now)) (omega arith), b, ← c .before .hex-from .ensures, ← c .is-hex .ensures)
 
 pub headed-spec : {M : Type 1} → statement M

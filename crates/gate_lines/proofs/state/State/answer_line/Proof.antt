@@ -11,7 +11,10 @@ use Rattle.gate_lines.proofs.state.State.answer_line.Statement.{stateme
 use Rattle.gate_lines.proofs.state.State.answer_line.Tie as tie
 
 slice-aggregate-answer-2 : tie.Need-slice-aggregate-answer-2
-slice-aggregate-answer-2 c = sym (length-take-le _ (c .before .before .before .before .before .before .before .before .before .before .before .before .before .before .before .args .cards .now) (c .before .before .before .least .ensures .1))
+slice-aggregate-answer-2 c =
+    let at-least = c .before .before .before in
+    let at-read = at-least .before .before .before .before .before .before .before in
+    sym (length-take-le _ (at-read .before .before .before .before .before .args .cards .now) (at-least .least .ensures .1))
 
 returns : tie.Need-returns
 unfolding gateAfter replyTo

@@ -23,16 +23,20 @@ hold-requires c κs = (omega (arith, c .before .find .ensures .0), c .before .fi
 
 returns-2 : tie.Need-returns-2
 returns-2 c =
-    let a = c .before .before .before .before .before .before .before .before .before .before .before .before .before .args in
+    let done = c .before .before .line-done in
+    let tested = c .before .before .before .before .before .before .before in
+    let hold = tested .before .hold in
+    let sought = tested .before .before .before in
+    let at = sought .find in
+    let a = sought .before .before .before .args in
     let g = gateOf (a .self) (a .cards .now) (a .object .now) in
-    let at = c .before .before .before .before .before .before .before .before .before .before .find in
     let e =
-    line-fed g _ (a .line .now) _ (a .held) _ (a .block .now) (a .from) (at .result) _ _ (omega arith) (at .ensures .0) (c .before .before .before .before .before .before .before .if2 .taken) (c .before .before .before .before .before .before .before .before .hold .ensures .0) (c .before .before .before .before .before .before .before .before .hold .ensures .1)
-    (c .before .before .line-done .ensures .0) (c .before .before .line-done .ensures .1 .0) refl in
+    line-fed g _ (a .line .now) _ (a .held) _ (a .block .now) (a .from) (at .result) _ _ (omega (arith, tested .before .before .hold-arg .given)) (at .ensures .0) (tested .if2 .taken) (hold .ensures .0) (hold .ensures .1)
+    (done .ensures .0) (done .ensures .1 .0) refl in
     let places =
-    line-places (a .self) (a .held) _ (a .cards .now) (a .line .now) _ (a .block .now) (a .from) (at .result) _ (at .ensures .0) (c .before .before .before .before .before .before .before .if2 .taken) (c .before .before .before .before .before .before .before .before .hold .ensures .0) (c .before .before .before .before .before .before .before .before .hold .ensures .1) (c .before .before .line-done .ensures .1 .1) in
+    line-places (a .self) (a .held) _ (a .cards .now) (a .line .now) _ (a .block .now) (a .from) (at .result) _ (at .ensures .0) (tested .if2 .taken) (hold .ensures .0) (hold .ensures .1) (done .ensures .1 .1) in
     let prints = c .text .ensures ∙ ap textOf (e .1) in
-    (e .0, (prints, (places, ((λ h. (omega (arith, at .ensures .0), omega (arith, c .before .before .before .before .before .before .before .if2 .taken))), (text-fits _ 0 (c .text .ensures) (reply-fits (c .before .before .line-done .result .reply)), feed-promise _ _ _ (text-in _ prints))))))
+    (e .0, (prints, (places, ((λ h. (omega (arith, at .ensures .0), omega (arith, tested .if2 .taken))), (text-fits _ 0 (c .text .ensures) (reply-fits (done .result .reply)), feed-promise _ _ _ (text-in _ prints))))))
 
 returns-3 : tie.Need-returns-3
 returns-3 c =

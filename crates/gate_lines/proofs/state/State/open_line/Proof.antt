@@ -18,8 +18,9 @@ number-is c = c .number .ensures ∙ ap (λ x. x .0) (opened-is c)
 
 returns : tie.Need-returns
 returns c =
-    let p = stepped (c .answered-by .result) (c .before .before .before .«open» .result) (c .before .before .before .before .before .before .before .before .before .args .self .cards) _ (opened-is (c .before .before)) (c .answered-by .ensures) in
-    (p .0, rw (← number-is (c .before .before), eq-eqb _ _ (c .before .if1 .taken)) (p .1))
+    let opened = c .before .before in
+    let p = stepped (c .answered-by .result) (opened .before .«open» .result) (opened .before .before .before .before .before .before .before .args .self .cards) _ (opened-is opened) (c .answered-by .ensures) in
+    (p .0, rw (← number-is opened, eq-eqb _ _ (c .before .if1 .taken)) (p .1))
 
 returns-2 : tie.Need-returns-2
 returns-2 c = rw (← number-is (c .before), ne-eqb _ _ (c .if1 .left)) (refl, refl)

@@ -48,9 +48,10 @@ returns-2 c =
 returns-3 : tie.Need-returns-3
 unfolding objectSize
 returns-3 c =
-    let a = c .before .before .before .before .before .before .before .before .before .args in
+    let at-read = c .before .before .before .before .before .before .before in
+    let a = at-read .before .before .args in
     let r = c .answer-line in
-    steps-read (a .self) (r .result .state) (a .cards .now) (a .cards .now) (a .object .now) _ (a .s .now) (r .result .reply) _ _ _ (c .before .before .before .before .before .before .before .read .ensures .0) (c .before .before .before .before .before .enum-told .given .1)
+    steps-read (a .self) (r .result .state) (a .cards .now) (a .cards .now) (a .object .now) _ (a .s .now) (r .result .reply) _ _ _ (at-read .read .ensures .0) (c .before .before .before .before .before .enum-told .given .1)
     (ap (λ (h : List ℕ). GateLine.answer (bytesIn h)) (sym (c .before .hex-from2 .ensures)))
     (omega arith) (answer-steps (a .self) (r .result .state) (a .cards .now) (a .object .now) _ _ _ (r .ensures .0) (r .ensures .1 .0) (r .ensures .1 .1))
 

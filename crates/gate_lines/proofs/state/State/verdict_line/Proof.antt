@@ -9,9 +9,11 @@ use Rattle.gate_lines.proofs.state.State.verdict_line.Tie as tie
 
 returns : tie.Need-returns
 returns c =
-    let a = c .before .before .before .before .before .before .before .before .args in
-    let r = c .before .before .before .before .before .read in
-    let e : given (c .before .verdict .result) ≡ verdictOf (a .self .session) (a .kind) (a .yes) (bytesIn (a .spelled .now)) = rw (spelled (a .spelled .now) (r .last .1 .0) (r .result) (c .before .before .before .before .before .before .before .before .pre) (r .ensures .0) (r .ensures .1 .0)) at (c .before .verdict .ensures .0) in
+    let at-read = c .before .before .before .before .before in
+    let r = at-read .read in
+    let start = at-read .before .before .before in
+    let a = start .args in
+    let e : given (c .before .verdict .result) ≡ verdictOf (a .self .session) (a .kind) (a .yes) (bytesIn (a .spelled .now)) = rw (spelled (a .spelled .now) (r .last .1 .0) (r .result) (start .pre) (r .ensures .0) (r .ensures .1 .0)) at (c .before .verdict .ensures .0) in
     stepped (c .answered-by .result) (c .before .verdict .result) (a .self .cards) _ e (c .answered-by .ensures)
 
 pub verdict-line-spec : {M : Type 1} → statement M
