@@ -7,7 +7,7 @@ use native.Mathlib.Omega.{arith}
 use borrow.Author.Needs.{needs}
 use lib.ListN.{length, drop, drop-of-length-le}
 use lib.Seq.{take-all}
-use Rattle.bytes.specs.Bytes.{slice, indexAfter, indexOf}
+use Rattle.bytes.specs.Bytes.{slice, indexOf}
 use Rattle.common.proofs.slice.find.Statement.{statement}
 use Rattle.common.proofs.slice.find.Tie as tie
 

@@ -1,9 +1,9 @@
 -- `gate_lines::line::headed` meets its contract: the head is looked at first. Assumes nothing.
-use mathlib.Core.Path.{_≡_, refl, sym, _∙_}
-use mathlib.Core.Bool.{Bool, true, false, not}
+use mathlib.Core.Path.{_≡_, sym, _∙_}
+use mathlib.Core.Bool.{true, false}
 use native.Mathlib.Omega.{arith}
 use borrow.Author.Needs.{needs}
-use borrow.Author.Tests.{le-leb, lt-leb}
+use borrow.Author.Tests.{le-leb, lt-leb, not-true, not-false}
 use Prim.Native.Nat.{_+_}
 use lib.ListN.{length, take}
 use lib.Seq.{length-take-le}
@@ -11,14 +11,6 @@ use Rattle.text.specs.Form.{between}
 use Rattle.gate_lines.specs.Line.{headed}
 use Rattle.gate_lines.proofs.line.headed.Statement.{statement}
 use Rattle.gate_lines.proofs.line.headed.Tie as tie
-
-not-true : (b : Bool) → not b ≡ true → b ≡ false
-not-true true e = sym e
-not-true false e = refl
-
-not-false : (b : Bool) → not b ≡ false → b ≡ true
-not-false true e = refl
-not-false false e = sym e
 
 returns : tie.Need-returns
 unfolding headed

@@ -3,7 +3,6 @@ use mathlib.Core.Path.{_≡_, sym, ap, _∙_}
 use Prim.Native.Nat.{ℕ}
 use borrow.Author.Tests.{ne-eqb}
 use borrow.Author.Needs.{needs}
-use denote.Ref.{now}
 use Rattle.card.specs.Object.{objectOf, objectAnswer}
 use Rattle.session.specs.Tables.{kindAt, objectCause, joinedCause}
 use Rattle.session.specs.Operation.{goodEndSession, judgedSession}

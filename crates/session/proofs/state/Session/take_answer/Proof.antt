@@ -7,7 +7,6 @@ use borrow.Author.Needs.{needs}
 use lib.ListN.{length}
 use Rattle.common.specs.Lists.{overPlaces}
 use Rattle.common.proofs.StoreLaws.{store-fits}
-use denote.Ref.{now}
 use Rattle.card.specs.Command.{statusOf}
 use Rattle.session.specs.Tables.{objectSize}
 use Rattle.session.specs.Operation.{causeIn, joinedIn, answerTakenSession, answerTakenBuffer}
