@@ -16,7 +16,7 @@ use Rattle.common.proofs.StoreLaws.{front-all}
 use Rattle.text.specs.Hex.{hexDigitAt, hexOf}
 use Rattle.text.proofs.HexLaws.{length-hex, front-hex}
 use Rattle.gate_lines.specs.Gate.{decimalDigit, decimalText, refusedHead, closing, refusedText, replyText, textSize, textOf, textIn}
-use Rattle.gate_lines.specs.GateCode.{textWith, TextFits, unprinted, digitsFrom}
+use Rattle.gate_lines.specs.GateCode.{textWith, TextFits, unprinted, printedDigits}
 use Rattle.gate_lines.specs.declared.state.Text.{Text}
 use Rattle.gate_lines.specs.declared.state.LineReply.{LineReply}
 use Rattle.gate_lines.specs.declared.state.LineReply.the-variants.{Ok, Refused, Bad}
@@ -76,11 +76,11 @@ reply-fits (Refused n) = omega (arith, text-room, length-append refusedHead (dec
 -- ---- digits
 
 -- the digits of a number from the first that is printed on
-pub digits-printed : (n : ℕ) → digitsFrom n (unprinted n) ≡ decimalText n
+pub digits-printed : (n : ℕ) → printedDigits n (unprinted n) ≡ decimalText n
 unfolding unprinted decimalText
 digits-printed n = by (ltb n 10) (ltb n 100)
   where
-    by : (a b : Bool) → digitsFrom n (cond a 2 (cond b 1 0))
+    by : (a b : Bool) → printedDigits n (cond a 2 (cond b 1 0))
         ≡ cond a (decimalDigit n ∷ []) (cond b (decimalDigit (n / 10) ∷ decimalDigit n ∷ []) (decimalDigit (n / 100) ∷ decimalDigit (n / 10) ∷ decimalDigit n ∷ []))
     by true b = refl
     by false true = refl

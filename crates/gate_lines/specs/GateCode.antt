@@ -36,5 +36,5 @@ TextFits t n = (length (t .bytes) ≡ textSize) × (t .len + n ≤ textSize)
 unfoldable pub unprinted : ℕ → ℕ
 unprinted n = cond (ltb n 10) 2 (cond (ltb n 100) 1 0)
 
-abbrev pub digitsFrom : ℕ → ℕ → List ℕ
-digitsFrom n u = drop u (decimalDigit (n / 100) ∷ decimalDigit (n / 10) ∷ decimalDigit n ∷ [])
+abbrev pub printedDigits : ℕ → ℕ → List ℕ
+printedDigits n u = drop u (decimalDigit (n / 100) ∷ decimalDigit (n / 10) ∷ decimalDigit n ∷ [])

@@ -1,3 +1,13 @@
 -- What the contracts of this crate mean.
--- Line: the parts of a line of the input
+-- Append: text written into a lent buffer after what stands there, and numbers as text
+-- FascnText, ObjectText, CommandText: the texts of the answers, by the crate card's definitions
+-- Answer: the calls by name, and the text of each one's answer
+-- Line: the parts of a line of the input, and the text that it gives
+-- Input: the bytes of the input cut into lines, and all that is printed
+pub mod Append
+pub mod FascnText
+pub mod ObjectText
+pub mod CommandText
+pub mod Answer
 pub mod Line
+pub mod Input

@@ -1,23 +1,81 @@
-// The parts of a line.
+// The parts of a line `PLACE: CALL HEX`, and the text that it gives.
+use crate::answer;
+use crate::append;
+use common::number;
 use common::slice;
+use text::hex;
 ghost use mathlib.Core.Path.{_≡_};
-ghost use Prim.Native.Nat.{_+_, _≤_, min};
-ghost use lib.ListN.{length, drop};
+ghost use Prim.Native.Nat.{_*_, _≤_};
+ghost use lib.ListN.{length, take, drop};
+ghost use Rattle.text.specs.Hex.{bytesIn};
 ghost use Rattle.bytes.specs.Bytes.{indexOf};
+ghost use Rattle.vectors.specs.Append.{Added};
+ghost use Rattle.vectors.specs.Answer.{callNamed, answerText};
+ghost use Rattle.vectors.specs.Line.{mostBytes, callText, saidText, lineText};
 
-// The place `at`, or the end where it is past that.
-pub(crate) fn within(at: usize, end: usize) -> usize
-    ensures is { λ r. ⌜ r ≡ min at end ⌝ }
-    ensures inside { λ r. ⌜ r ≤ end ⌝ }
+// The most bytes that a line spells; `mostBytes` in the definitions.
+const BYTES: usize = 65536;
+
+// The first n bytes, or all.
+pub(crate) fn front(s: &[u8], n: usize) -> &[u8]
+    ensures { λ r. ⌜ now r ≡ take n (now (s .entry)) ⌝ }
 {
-    if at < end { at } else { end }
+    let end = number::least(s.len(), n);
+    &s[..end]
 }
 
-// The place of the first x in s from place `from` on, which is no later than the end; the end where there is none.
-pub(crate) fn find(s: &[u8], from: usize, x: u8) -> usize
-    requires { ⌜ from ≤ length (now s) ⌝ }
-    ensures is { λ r. ⌜ r ≡ from + indexOf x (drop from (now (s .entry))) ⌝ }
+// What follows the first n bytes.
+pub(crate) fn after(s: &[u8], n: usize) -> &[u8]
+    ensures { λ r. ⌜ now r ≡ drop n (now (s .entry)) ⌝ }
+{
+    let from = number::least(s.len(), n);
+    &s[from..]
+}
+
+// How many bytes stand before the first x, all of them where there is none.
+fn before_first(s: &[u8], x: u8) -> usize
+    ensures is { λ r. ⌜ r ≡ indexOf x (now (s .entry)) ⌝ }
     ensures inside { λ r. ⌜ r ≤ length (now (s .entry)) ⌝ }
 {
-    slice::find(s, from, x)
+    slice::find(s, 0, x)
+}
+
+// The answer of the call of that name for the bytes that the digits spell, pairs of digits and not too many.
+fn add_spelled(out: &mut [u8], at: usize, name: &[u8], digits: &[u8]) -> usize
+    requires { ⌜ length (now digits) ≤ 2 * mostBytes ⌝ }
+    ensures { λ r. ⌜ Added (now (out .entry)) at (now (out .exit)) r (answerText (callNamed (now (name .entry))) (bytesIn (now (digits .entry)))) ⌝ }
+{
+    let mut b = io::large_buffer();
+    let n = hex::read(digits, &mut b);
+    let call = answer::call_of(name);
+    answer::answer(out, at, call, &b[..n])
+}
+
+// The answer of the call of that name for the bytes that the digits spell.
+fn add_call(out: &mut [u8], at: usize, name: &[u8], digits: &[u8]) -> usize
+    ensures { λ r. ⌜ Added (now (out .entry)) at (now (out .exit)) r (callText (now (name .entry)) (now (digits .entry))) ⌝ }
+{
+    if hex::is_hex(digits) & (digits.len() <= 2 * BYTES) {
+        return add_spelled(out, at, name, digits);
+    }
+    append::add_no_vector(out, at)
+}
+
+// The answer of a line.
+fn add_said(out: &mut [u8], at: usize, s: &[u8]) -> usize
+    ensures { λ r. ⌜ Added (now (out .entry)) at (now (out .exit)) r (saidText (now (s .entry))) ⌝ }
+{
+    let named = after(s, before_first(s, b':') + 2);
+    let n = before_first(named, b' ');
+    add_call(out, at, front(named, n), after(named, n + 1))
+}
+
+// A line, and what its call says.
+pub(crate) fn add_line(out: &mut [u8], at: usize, s: &[u8]) -> usize
+    ensures { λ r. ⌜ Added (now (out .entry)) at (now (out .exit)) r (lineText (now (s .entry))) ⌝ }
+{
+    let line = append::add(out, at, s);
+    let gives = append::add(out, line, b" gives ");
+    let said = add_said(out, gives, s);
+    append::add(out, said, b"\n")
 }

@@ -1,46 +1,110 @@
 // Runs the vectors of standard input through the proved functions of the crate card, and prints each line with what they say of it. The
 // expected lines, in the file `stdout`, are written from the documents.
 //
-// A line is `PLACE: CALL HEX`: where the vector is from, one word, and pairs of upper-case hexadecimal digits.
+// A line is `PLACE: CALL HEX`: where the vector is from, one word, and pairs of upper-case hexadecimal digits. What it gives is `lineText` in the definitions, and
+// src/answer.rt says how a call is added.
+//
+// The functions of this file read and write. What is read goes by blocks, and a line that does not fit a block, a text that does not fit its buffer, or a read
+// or a write that fails ends the program with a line on standard error.
+mod answer;
+mod append;
+mod input;
 mod line;
-mod print;
-mod report;
 
-// What the call of that name says of the bytes that the text spells, 4,096 at most.
-fn call(name: &[u8], text: &[u8]) {
-    if !(text::hex::is_hex(text) & (text.len() <= 8192)) {
-        print::no_vector();
-        return;
+ghost use Prim.Native.Nat.{_≤_};
+ghost use lib.ListN.{length};
+
+// The most bytes of a line and its 0A, and of the text of a block: an empty line, the worst case, gives 17 bytes for one.
+const BLOCK: usize = 65536;
+
+const TEXT: usize = 18 * BLOCK;
+
+// How many bytes are held at the front of the block, and whether the program goes on.
+struct Held {
+    count: usize,
+    more: bool,
+}
+
+// Writes the first n bytes of a text; whether all was written. A text that fills its buffer may be cut, and is not written.
+fn write_text(out: &[u8], n: usize) -> bool {
+    if out.len() <= n {
+        io::write_all(2, b"vectors: the text of a block does not fit the buffer\n");
+        return false;
     }
-    let mut b = io::buffer();
-    let n = text::hex::read(text, &mut b);
-    report::fascn::answer(name, &b[..n]);
+    let taken = io::write_all(1, line::front(out, n));
+    if !taken {
+        io::write_all(2, b"vectors: standard output is not written\n");
+    }
+    taken
 }
 
-// A line, and what its call says.
-fn run_line(s: &[u8]) {
-    print::text(s);
-    print::text(b" gives ");
-    let end = s.len();
-    let name = line::within(line::find(s, 0, b':') + 2, end);
-    let space = line::find(s, name, b' ');
-    let text = line::within(space + 1, end);
-    call(&s[name..space], &s[text..]);
-    print::text(b"\n");
+// Reads after the bytes that are held; how many bytes stand in the block then. At the end of the input they are as many as before.
+fn read_more(block: &mut [u8], held: usize) -> Held
+    requires { ⌜ held ≤ length (now block) ⌝ }
+    ensures { λ r. ⌜ (held ≤ r .count) × (r .count ≤ length (now (block .exit))) ⌝ }
+{
+    if held == block.len() {
+        io::write_all(2, b"vectors: a line does not fit the buffer\n");
+        return Held {
+            count: held,
+            more: false,
+        };
+    }
+    let got = libc::read(0, &mut block[held..]);
+    if got < 0 {
+        io::write_all(2, b"vectors: standard input is not read\n");
+        return Held {
+            count: held,
+            more: false,
+        };
+    }
+    let n = io::count(got, line::after(block, held));
+    Held {
+        count: held + n,
+        more: true,
+    }
 }
 
-fn run_vectors(s: &[u8]) {
-    let mut at: usize = 0;
-    while at < s.len() {
-        let next = line::find(s, at, b'\n');
-        run_line(&s[at..next]);
-        at = next + 1;
+// One block: it is read, and the text of its lines is written; at the end of the input that of a last line.
+fn one_block(block: &mut [u8], out: &mut [u8], held: usize) -> Held
+    requires { ⌜ held ≤ length (now block) ⌝ }
+    ensures { λ r. ⌜ r .count ≤ length (now (block .exit)) ⌝ }
+{
+    let read = read_more(block, held);
+    let end = read.count;
+    if !read.more {
+        return read;
+    }
+    if end == held {
+        let n = input::add_last(out, 0, line::front(block, held));
+        write_text(out, n);
+        return Held {
+            count: held,
+            more: false,
+        };
+    }
+    let done = input::add_lines(out, 0, line::front(block, end));
+    let more = write_text(out, done.count);
+    let used = done.used;
+    let count = input::keep(block, used, end);
+    Held { count, more }
+}
+
+// The characters of figure 7, then blocks to the end of the input. A proved loop has to end, and nothing says that the input does: the turns are counted down
+// from a number that no run uses up.
+fn run(block: &mut [u8], out: &mut [u8]) {
+    let n = answer::fascn::add_codes(out, 0);
+    let more = write_text(out, n);
+    let mut at = Held { count: 0, more };
+    let mut turns = u64::MAX;
+    while (turns > 0) & at.more {
+        turns -= 1;
+        at = one_block(block, out, at.count);
     }
 }
 
 fn main() {
-    report::fascn::codes();
-    let mut input = io::large_buffer();
-    let n = io::read_full(0, &mut input);
-    run_vectors(&input[..n]);
+    let mut block = [0u8; BLOCK];
+    let mut out = [0u8; TEXT];
+    run(&mut block, &mut out);
 }

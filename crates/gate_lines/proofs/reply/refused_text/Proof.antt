@@ -7,20 +7,20 @@ use Prim.Native.Nat.{ℕ, _-_, _≤_}
 use lib.ListN.{length, take, length-append, length-take, length-drop}
 use lib.Seq.{take-all}
 use Rattle.gate_lines.specs.Gate.{decimalText, refusedHead, closing, refusedText, textOf}
-use Rattle.gate_lines.specs.GateCode.{unprinted, digitsFrom}
+use Rattle.gate_lines.specs.GateCode.{unprinted, printedDigits}
 use Rattle.gate_lines.proofs.ReplyTextLaws.{text-fits, text-with, text-room, digits-printed}
 use Rattle.gate_lines.proofs.reply.refused_text.Statement.{statement}
 use Rattle.gate_lines.proofs.reply.refused_text.Tie as tie
 
 -- the digits from place u on, as the code takes them
 abbrev printed : ℕ → ℕ → List ℕ
-printed n u = take (3 - u) (digitsFrom n u)
+printed n u = take (3 - u) (printedDigits n u)
 
 length-printed : (n u : ℕ) → length (printed n u) ≤ 3
 length-printed n u = rw length-take (omega arith)
 
 printed-is : (n : ℕ) {u : ℕ} → u ≡ unprinted n → printed n u ≡ decimalText n
-printed-is n {u} e = take-all (3 - u) (digitsFrom n u) (rw length-drop (omega arith)) ∙ ap (digitsFrom n) e ∙ digits-printed n
+printed-is n {u} e = take-all (3 - u) (printedDigits n u) (rw length-drop (omega arith)) ∙ ap (printedDigits n) e ∙ digits-printed n
 
 with-requires : tie.Need-with-requires
 with-requires c κs = text-fits [] _ (c .before .no-text .ensures) (omega (arith, text-room))

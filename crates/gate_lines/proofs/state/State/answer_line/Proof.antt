@@ -14,7 +14,7 @@ slice-aggregate-answer-2 : tie.Need-slice-aggregate-answer-2
 slice-aggregate-answer-2 c =
     let at-least = c .before .before .before in
     let at-read = at-least .before .before .before .before .before .before .before in
-    sym (length-take-le _ (at-read .before .before .before .before .before .args .cards .now) (at-least .least .ensures .1))
+    sym (length-take-le _ (at-read .before .before .before .before .before .args .cards .now) (at-least .least .ensures .1 .1))
 
 returns : tie.Need-returns
 unfolding gateAfter replyTo

@@ -1,0 +1,81 @@
+-- The calls by name, and the text of each one's answer. A call is a row of `calls` and a row of `answerText`.
+-- Assumes nothing.
+use mathlib.Core.Bool.{cond}
+use mathlib.Core.List.{List, [], _∷_}
+use Prim.Native.Nat.{ℕ}
+use Rattle.common.specs.Lists.{sameBytes}
+use Rattle.card.specs.declared.object.Kind.the-variants as kinds
+use Rattle.vectors.specs.Append.{noVector}
+use Rattle.vectors.specs.FascnText.{unpackText, packText}
+use Rattle.vectors.specs.ObjectText.{headerText, templateText, objectText, dateText, realText}
+use Rattle.vectors.specs.CommandText.{selectText, getDataText, getResponseText, statusText}
+use Rattle.vectors.specs.declared.answer.Call.{Call}
+use Rattle.vectors.specs.declared.answer.Call.the-variants.{Unpack, Pack, Header, Template, Date, Real, Object, Select, GetData, GetResponse, Status, Unknown}
+
+-- ---- the names
+
+-- The call of a name, by rows of a name and a call.
+unfoldable pub callAmong : List (List ℕ × Call) → List ℕ → Call
+callAmong [] name = Unknown
+callAmong (r ∷ rs) name = cond (sameBytes name (r .0)) (r .1) (callAmong rs name)
+
+-- The names. A number is the room of the buffer that a command is lent, and `short..` lends one that is too short.
+abbrev pub calls : List (List ℕ × Call)
+calls =
+    -- unpack
+    (0x75 ∷ 0x6E ∷ 0x70 ∷ 0x61 ∷ 0x63 ∷ 0x6B ∷ [], Unpack)
+    -- pack
+    ∷ (0x70 ∷ 0x61 ∷ 0x63 ∷ 0x6B ∷ [], Pack)
+    -- header
+    ∷ (0x68 ∷ 0x65 ∷ 0x61 ∷ 0x64 ∷ 0x65 ∷ 0x72 ∷ [], Header)
+    -- template
+    ∷ (0x74 ∷ 0x65 ∷ 0x6D ∷ 0x70 ∷ 0x6C ∷ 0x61 ∷ 0x74 ∷ 0x65 ∷ [], Template)
+    -- date
+    ∷ (0x64 ∷ 0x61 ∷ 0x74 ∷ 0x65 ∷ [], Date)
+    -- real
+    ∷ (0x72 ∷ 0x65 ∷ 0x61 ∷ 0x6C ∷ [], Real)
+    -- signed
+    ∷ (0x73 ∷ 0x69 ∷ 0x67 ∷ 0x6E ∷ 0x65 ∷ 0x64 ∷ [], Object kinds.Signed)
+    -- unsigned
+    ∷ (0x75 ∷ 0x6E ∷ 0x73 ∷ 0x69 ∷ 0x67 ∷ 0x6E ∷ 0x65 ∷ 0x64 ∷ [], Object kinds.Unsigned)
+    -- fingers
+    ∷ (0x66 ∷ 0x69 ∷ 0x6E ∷ 0x67 ∷ 0x65 ∷ 0x72 ∷ 0x73 ∷ [], Object kinds.Fingers)
+    -- select
+    ∷ (0x73 ∷ 0x65 ∷ 0x6C ∷ 0x65 ∷ 0x63 ∷ 0x74 ∷ [], Select 24)
+    -- shortselect
+    ∷ (0x73 ∷ 0x68 ∷ 0x6F ∷ 0x72 ∷ 0x74 ∷ 0x73 ∷ 0x65 ∷ 0x6C ∷ 0x65 ∷ 0x63 ∷ 0x74 ∷ [], Select 14)
+    -- getsigned
+    ∷ (0x67 ∷ 0x65 ∷ 0x74 ∷ 0x73 ∷ 0x69 ∷ 0x67 ∷ 0x6E ∷ 0x65 ∷ 0x64 ∷ [], GetData kinds.Signed 12)
+    -- getunsigned
+    ∷ (0x67 ∷ 0x65 ∷ 0x74 ∷ 0x75 ∷ 0x6E ∷ 0x73 ∷ 0x69 ∷ 0x67 ∷ 0x6E ∷ 0x65 ∷ 0x64 ∷ [], GetData kinds.Unsigned 12)
+    -- getfingers
+    ∷ (0x67 ∷ 0x65 ∷ 0x74 ∷ 0x66 ∷ 0x69 ∷ 0x6E ∷ 0x67 ∷ 0x65 ∷ 0x72 ∷ 0x73 ∷ [], GetData kinds.Fingers 12)
+    -- shortgetsigned
+    ∷ (0x73 ∷ 0x68 ∷ 0x6F ∷ 0x72 ∷ 0x74 ∷ 0x67 ∷ 0x65 ∷ 0x74 ∷ 0x73 ∷ 0x69 ∷ 0x67 ∷ 0x6E ∷ 0x65 ∷ 0x64 ∷ [], GetData kinds.Signed 10)
+    -- getresponse
+    ∷ (0x67 ∷ 0x65 ∷ 0x74 ∷ 0x72 ∷ 0x65 ∷ 0x73 ∷ 0x70 ∷ 0x6F ∷ 0x6E ∷ 0x73 ∷ 0x65 ∷ [], GetResponse 6)
+    -- shortgetresponse
+    ∷ (0x73 ∷ 0x68 ∷ 0x6F ∷ 0x72 ∷ 0x74 ∷ 0x67 ∷ 0x65 ∷ 0x74 ∷ 0x72 ∷ 0x65 ∷ 0x73 ∷ 0x70 ∷ 0x6F ∷ 0x6E ∷ 0x73 ∷ 0x65 ∷ [], GetResponse 4)
+    -- status
+    ∷ (0x73 ∷ 0x74 ∷ 0x61 ∷ 0x74 ∷ 0x75 ∷ 0x73 ∷ [], Status)
+    ∷ []
+
+unfoldable pub callNamed : List ℕ → Call
+callNamed name = callAmong calls name
+
+-- ---- the answers
+
+-- What a call says of the bytes s.
+unfoldable pub answerText : Call → List ℕ → List ℕ
+answerText Unpack s = unpackText s
+answerText Pack s = packText s
+answerText Header s = headerText s
+answerText Template s = templateText s
+answerText Date s = dateText s
+answerText Real s = realText s
+answerText (Object kind) s = objectText kind s
+answerText (Select room) s = selectText room s
+answerText (GetData kind room) s = getDataText kind room s
+answerText (GetResponse room) s = getResponseText room s
+answerText Status s = statusText s
+answerText Unknown s = noVector
