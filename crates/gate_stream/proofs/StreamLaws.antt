@@ -12,7 +12,7 @@ use lib.ListN.{length, take, drop, length-append, length-take, length-drop}
 use lib.Seq.{take-add, take-append-seam, length-take-le}
 use Rattle.common.proofs.TestLaws.{clash, and-left, either}
 use Rattle.io.specs.Counts.{clamped}
-use Rattle.common.specs.Lists.{overFront, overPlaces}
+use Rattle.common.specs.Lists.{overFront}
 use Rattle.session.specs.Operation.{dead}
 use Rattle.session.specs.declared.state.Session.{Session}
 use Rattle.gate_lines.specs.Line.{lineIn}

@@ -7,7 +7,7 @@ use Prim.Native.Nat.{ℕ, _+_, _-_, _≤_, _<_}
 use native.Mathlib.Nat.{zero-add}
 use native.Mathlib.Omega.{arith}
 use lib.Dec.{eqb}
-use lib.ListN.{length, getD, take, drop, length-take, length-drop, take-append-drop}
+use lib.ListN.{length, getD, take, drop, length-drop, take-append-drop}
 use lib.Seq.{take-add, take-all, getD-append-add, getD-drop, getD-take, length-take-le}
 use Rattle.common.specs.Lists.{listOf, written, overFront}
 use Rattle.common.proofs.ListsLaws.{length-listOf, listOf-is}

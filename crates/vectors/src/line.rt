@@ -1,12 +1,12 @@
 // The parts of a line `PLACE: CALL HEX`, and the text that it gives.
 use crate::answer;
 use crate::append;
-use common::number;
+use crate::part;
 use common::slice;
 use text::hex;
 ghost use mathlib.Core.Path.{_≡_};
 ghost use Prim.Native.Nat.{_*_, _≤_};
-ghost use lib.ListN.{length, take, drop};
+ghost use lib.ListN.{length};
 ghost use Rattle.text.specs.Hex.{bytesIn};
 ghost use Rattle.bytes.specs.Bytes.{indexOf};
 ghost use Rattle.vectors.specs.Append.{Added};
@@ -15,22 +15,6 @@ ghost use Rattle.vectors.specs.Line.{mostBytes, callText, saidText, line
 
 // The most bytes that a line spells; `mostBytes` in the definitions.
 const BYTES: usize = 65536;
-
-// The first n bytes, or all.
-pub(crate) fn front(s: &[u8], n: usize) -> &[u8]
-    ensures { λ r. ⌜ now r ≡ take n (now (s .entry)) ⌝ }
-{
-    let end = number::least(s.len(), n);
-    &s[..end]
-}
-
-// What follows the first n bytes.
-pub(crate) fn after(s: &[u8], n: usize) -> &[u8]
-    ensures { λ r. ⌜ now r ≡ drop n (now (s .entry)) ⌝ }
-{
-    let from = number::least(s.len(), n);
-    &s[from..]
-}
 
 // How many bytes stand before the first x, all of them where there is none.
 fn before_first(s: &[u8], x: u8) -> usize
@@ -65,9 +49,9 @@ fn add_call(out: &mut [u8], at: usize, name: &[u8], digits: &[u8]) -> usize
 fn add_said(out: &mut [u8], at: usize, s: &[u8]) -> usize
     ensures { λ r. ⌜ Added (now (out .entry)) at (now (out .exit)) r (saidText (now (s .entry))) ⌝ }
 {
-    let named = after(s, before_first(s, b':') + 2);
+    let named = part::after(s, before_first(s, b':') + 2);
     let n = before_first(named, b' ');
-    add_call(out, at, front(named, n), after(named, n + 1))
+    add_call(out, at, part::front(named, n), part::after(named, n + 1))
 }
 
 // A line, and what its call says.

@@ -10,6 +10,7 @@ mod answer;
 mod append;
 mod input;
 mod line;
+mod part;
 
 ghost use Prim.Native.Nat.{_≤_};
 ghost use lib.ListN.{length};
@@ -31,7 +32,7 @@ fn write_text(out: &[u8], n: usize) -> bool {
         io::write_all(2, b"vectors: the text of a block does not fit the buffer\n");
         return false;
     }
-    let taken = io::write_all(1, line::front(out, n));
+    let taken = io::write_all(1, part::front(out, n));
     if !taken {
         io::write_all(2, b"vectors: standard output is not written\n");
     }
@@ -58,7 +59,7 @@ fn read_more(block: &mut [u8], held: usize) -> Held
             more: false,
         };
     }
-    let n = io::count(got, line::after(block, held));
+    let n = io::count(got, part::after(block, held));
     Held {
         count: held + n,
         more: true,
@@ -76,14 +77,14 @@ fn one_block(block: &mut [u8], out: &mut [u8], held: usize) -> Held
         return read;
     }
     if end == held {
-        let n = input::add_last(out, 0, line::front(block, held));
+        let n = input::add_last(out, 0, part::front(block, held));
         write_text(out, n);
         return Held {
             count: held,
             more: false,
         };
     }
-    let done = input::add_lines(out, 0, line::front(block, end));
+    let done = input::add_lines(out, 0, part::front(block, end));
     let more = write_text(out, done.count);
     let used = done.used;
     let count = input::keep(block, used, end);
@@ -92,7 +93,9 @@ fn one_block(block: &mut [u8], out: &mut [u8], held: usize) -> Held
 
 // The characters of figure 7, then blocks to the end of the input. A proved loop has to end, and nothing says that the input does: the turns are counted down
 // from a number that no run uses up.
-fn run(block: &mut [u8], out: &mut [u8]) {
+fn run(block: &mut [u8], out: &mut [u8]) -> Held
+    ensures { λ r. ⌜ r .count ≤ length (now (block .exit)) ⌝ }
+{
     let n = answer::fascn::add_codes(out, 0);
     let more = write_text(out, n);
     let mut at = Held { count: 0, more };
@@ -101,6 +104,7 @@ fn run(block: &mut [u8], out: &mut [u8]) {
         turns -= 1;
         at = one_block(block, out, at.count);
     }
+    at
 }
 
 fn main() {

@@ -1,5 +1,4 @@
 -- `gate_stream::run_gate` meets its contract: the buffers that it lends have their sizes. Assumes nothing.
-use native.Mathlib.Omega.{arith}
 use borrow.Author.Needs.{needs}
 use Rattle.session.specs.Tables.{objectSize}
 use Rattle.gate_stream.proofs.run_gate.Statement.{statement}

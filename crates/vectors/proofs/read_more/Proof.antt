@@ -8,7 +8,8 @@ use Rattle.vectors.proofs.read_more.Tie as tie
 
 returns-3 : tie.Need-returns-3
 returns-3 c =
-    let start = c .before .before .before .before .before .before .before .before .before .before in
+    let early = c .before .before .before .before .before .before in
+    let start = early .before .before .before .before in
     let e = ap length (c .before .after .ensures) ∙ length-drop (start .args .held) _ in (omega arith, omega (arith, e, c .count .ensures .0))
 
 pub read-more-spec : {M : Type 1} → statement M

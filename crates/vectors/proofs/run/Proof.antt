@@ -6,7 +6,7 @@ use borrow.Author.Tests.{ltb-true}
 use borrow.Author.Needs.{needs}
 use lib.Dec.{ltb}
 use lib.ListN.{length}
-use Rattle.vectors.proofs.AppendLaws.{and-left}
+use Rattle.common.proofs.TestLaws.{and-left}
 use Rattle.vectors.proofs.run.Statement.{statement}
 use Rattle.vectors.proofs.run.Tie as tie
 

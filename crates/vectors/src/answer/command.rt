@@ -1,6 +1,6 @@
 // The texts of what the writers of commands and the reader of status words say.
 use crate::append;
-use crate::line;
+use crate::part;
 use card::command;
 use card::command::CommandAnswer;
 use card::command::Status;
@@ -20,9 +20,9 @@ fn add_written(out: &mut [u8], at: usize, n: usize, buffer: &[u8]) -> usize
 {
     let count = append::add_decimal(out, at, n as u64);
     let head = append::add(out, count, b" bytes ");
-    let first = append::add_hex(out, head, line::front(buffer, n));
+    let first = append::add_hex(out, head, part::front(buffer, n));
     let middle = append::add(out, first, b", then ");
-    append::add_hex(out, middle, line::after(buffer, n))
+    append::add_hex(out, middle, part::after(buffer, n))
 }
 
 // The number of a refusal, and the buffer.

@@ -30,7 +30,8 @@ loop-again c =
     let at-add-line = c .before .before .before in
     let at-loop-test = at-add-line .before .before .before in
     let turn = at-loop-test .before in
-    let start = turn .before .before .before .before .before .before .before .before .before in
+    let early = turn .before .before .before .before .before in
+    let start = early .before .before .before .before in
     let i = turn .loop .inv in
     let more = lines-more (start .args .block .now) (turn .loop .from) (turn .loop .end) (i .3) (at-loop-test .loop-test .taken) (i .4) in (
       omega arith,

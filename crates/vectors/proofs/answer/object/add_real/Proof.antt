@@ -8,7 +8,8 @@ use lib.ListN.{length}
 use Rattle.common.specs.Lists.{all}
 use Rattle.card.specs.Date.{realDate}
 use Rattle.vectors.specs.ObjectText.{decimalPair, realSaid, realText}
-use Rattle.vectors.proofs.AppendLaws.{same-text, when, unless, and-left}
+use Rattle.common.proofs.TestLaws.{and-left}
+use Rattle.vectors.proofs.AppendLaws.{same-text, when, unless}
 use Rattle.vectors.proofs.answer.object.add_real.Statement.{statement}
 use Rattle.vectors.proofs.answer.object.add_real.Tie as tie
 

@@ -1,4 +1,4 @@
--- `vectors::line::after` meets its contract: a place past the end counts as the end. Assumes nothing.
+-- `vectors::part::after` meets its contract: a place past the end counts as the end. Assumes nothing.
 use mathlib.Core.Path.{_∙_}
 use Prim.Native.Nat.{_-_}
 use native.Mathlib.Nat.{le-of-eq}
@@ -6,8 +6,8 @@ use borrow.Author.Needs.{needs}
 use lib.ListN.{length, drop, length-drop}
 use lib.Seq.{take-all}
 use Rattle.vectors.proofs.AppendLaws.{drop-most}
-use Rattle.vectors.proofs.line.after.Statement.{statement}
-use Rattle.vectors.proofs.line.after.Tie as tie
+use Rattle.vectors.proofs.part.after.Statement.{statement}
+use Rattle.vectors.proofs.part.after.Tie as tie
 
 returns : tie.Need-returns
 returns c =

@@ -1,11 +1,11 @@
--- `vectors::line::front` meets its contract: a place past the end counts as the end. Assumes nothing.
+-- `vectors::part::front` meets its contract: a place past the end counts as the end. Assumes nothing.
 use mathlib.Core.Path.{sym}
 use native.Mathlib.Omega.{arith}
 use borrow.Author.Needs.{needs}
 use lib.Seq.{length-take-le}
 use Rattle.vectors.proofs.AppendLaws.{take-most}
-use Rattle.vectors.proofs.line.front.Statement.{statement}
-use Rattle.vectors.proofs.line.front.Tie as tie
+use Rattle.vectors.proofs.part.front.Statement.{statement}
+use Rattle.vectors.proofs.part.front.Tie as tie
 
 slice-aggregate-result : tie.Need-slice-aggregate-result
 slice-aggregate-result c = sym (length-take-le _ _ (omega arith))
