@@ -7,15 +7,15 @@ use Prim.Native.Nat.{ℕ, _+_, _-_, _≤_, _<_}
 use native.Mathlib.Nat.{zero-add}
 use native.Mathlib.Omega.{arith}
 use lib.Dec.{eqb}
-use lib.ListN.{length, getD, take, drop, length-drop, take-append-drop}
-use lib.Seq.{take-add, take-all, getD-append-add, getD-drop, getD-take, length-take-le}
+use lib.ListN.{length, getD, take, drop, length-take, length-drop, take-append-drop}
+use lib.Seq.{take-at, drop-at, take-take, take-add, take-all, getD-append-add, getD-drop, getD-take, length-take-le}
 use Rattle.common.specs.Lists.{listOf, written, overFront}
 use Rattle.common.proofs.ListsLaws.{length-listOf, listOf-is}
 use Rattle.bytes.specs.Bytes.{indexOf}
 use Rattle.common.proofs.PlaceLaws.{NoEnd, none-before, with-end}
 use Rattle.vectors.specs.FascnText.{codesText}
 use Rattle.vectors.specs.Line.{lineText}
-use Rattle.vectors.specs.Input.{linesText, restOf, lastLineText, inputText, blocksText, joined, moved}
+use Rattle.vectors.specs.Input.{linesText, restOf, lastLineText, inputText, blocksText, joined, Continued, moved}
 
 -- ---- block after block
 
@@ -163,3 +163,23 @@ moved-is b from end h g =
     let front : listOf n (λ j. getD b (from + j) 0) ≡ p =
     listOf-is n (λ j. getD b (from + j) 0) p size (λ i l. sym (getD-take n (drop from b) i 0 l ∙ getD-drop from b i 0)) in
     rw (front, zero-add, size)
+
+-- the bytes before a part that is lent are as they were
+pub part-keeps : (b l r : List ℕ) (at : ℕ) → at ≤ length b → take at (take at b ++ (l ++ r)) ≡ take at b
+part-keeps b l r at h = take-at (take at b) (l ++ r) at (length-take-le at b h)
+
+-- what is moved is what the block leaves
+pub kept-is : (b h : List ℕ) (held used end : ℕ) → held ≤ end → end ≤ length b → used ≤ end → take held b ≡ h → restOf [] (take end b) ≡ drop used (take end b)
+    → Continued h (take (end - used) (moved b used end))
+unfolding moved overFront
+kept-is b h held used end p q r e f =
+    let n = end - used in
+    let part = take n (drop used b) in
+    let size : length part ≡ n = length-take-le n (drop used b) (rw length-drop (omega (arith, r, q))) in
+    let sum : end ≡ used + n = omega (arith, r) in
+    let rest : drop used (take end b) ≡ part =
+    ap (λ (i : ℕ). drop used (take i b)) sum ∙ ap (λ (l : List ℕ). drop used l) (take-add used n b)
+    ∙ drop-at (take used b) part used (length-take-le used b (omega (arith, r, q))) in
+    let whole : h ++ drop held (take end b) ≡ take end b =
+    ap (λ (l : List ℕ). l ++ drop held (take end b)) (sym e ∙ sym (take-take held end b p)) ∙ take-append-drop held (take end b) in
+    (drop held (take end b), take-at part (drop (length part) b) n size ∙ sym rest ∙ sym f ∙ ap (restOf []) (sym whole))

@@ -10,7 +10,7 @@ use Rattle.vectors.specs.FascnText.{unpackText, packText}
 use Rattle.vectors.specs.ObjectText.{headerText, templateText, objectText, dateText, realText}
 use Rattle.vectors.specs.CommandText.{selectText, getDataText, getResponseText, statusText}
 use Rattle.vectors.specs.declared.answer.Call.{Call}
-use Rattle.vectors.specs.declared.answer.Call.the-variants.{Unpack, Pack, Header, Template, Date, Real, Object, Select, GetData, GetResponse, Status, Unknown}
+use Rattle.vectors.specs.declared.answer.Call.the-variants.{Unknown, Unpack, Pack, Header, Template, Date, Real, Object, Select, GetData, GetResponse, Status}
 
 -- ---- the names
 
@@ -67,6 +67,7 @@ callNamed name = callAmong calls name
 
 -- What a call says of the bytes s.
 unfoldable pub answerText : Call → List ℕ → List ℕ
+answerText Unknown s = noVector
 answerText Unpack s = unpackText s
 answerText Pack s = packText s
 answerText Header s = headerText s
@@ -78,4 +79,3 @@ answerText (Select room) s = selectText room s
 answerText (GetData kind room) s = getDataText kind room s
 answerText (GetResponse room) s = getResponseText room s
 answerText Status s = statusText s
-answerText Unknown s = noVector

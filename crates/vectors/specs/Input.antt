@@ -1,5 +1,6 @@
 -- The input: bytes, in blocks of any size, cut into lines at 0A, and what is printed for them.
 -- Assumes nothing.
+use mathlib.Core.Path.{_≡_}
 use mathlib.Core.Bool.{cond}
 use mathlib.Core.List.{List, [], _∷_, _++_}
 use Prim.Native.Nat.{ℕ, _-_}
@@ -35,6 +36,10 @@ blocksText held (b ∷ bs) = linesText [] (held ++ b) ++ blocksText (restOf [] (
 unfoldable pub joined : List (List ℕ) → List ℕ
 joined [] = []
 joined (b ∷ bs) = b ++ joined bs
+
+-- The bytes that are held after a block, by those that were held before it: whatever was read, they are what the block leaves.
+abbrev pub Continued : List ℕ → List ℕ → Type 0
+Continued before after = (s : List ℕ) × (after ≡ restOf [] (before ++ s))
 
 -- The buffer l with its bytes from place `from` to place `end` at its front; the others are as they were.
 unfoldable pub moved : List ℕ → ℕ → ℕ → List ℕ

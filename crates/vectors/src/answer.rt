@@ -17,6 +17,7 @@ ghost use Rattle.vectors.specs.Answer.{callNamed, answerText};
 
 // A call. A number is the room of the buffer that a command is lent.
 pub(crate) enum Call {
+    Unknown,
     Unpack,
     Pack,
     Header,
@@ -28,7 +29,6 @@ pub(crate) enum Call {
     GetData(Kind, usize),
     GetResponse(usize),
     Status,
-    Unknown,
 }
 
 // The call of a row where the name is the row's, else the other.
@@ -67,6 +67,7 @@ pub(crate) fn answer(out: &mut [u8], at: usize, call: Call, s: &[u8]) -> usize
     ensures { λ r. ⌜ Added (now (out .entry)) at (now (out .exit)) r (answerText call (now (s .entry))) ⌝ }
 {
     match call {
+        Call::Unknown => append::add_no_vector(out, at),
         Call::Unpack => fascn::add_unpack(out, at, s),
         Call::Pack => fascn::add_pack(out, at, s),
         Call::Header => object::add_header(out, at, s),
@@ -78,6 +79,5 @@ pub(crate) fn answer(out: &mut [u8], at: usize, call: Call, s: &[u8]) -> usize
         Call::GetData(kind, room) => command::add_get_data(out, at, kind, room, s),
         Call::GetResponse(room) => command::add_get_response(out, at, room, s),
         Call::Status => command::add_status(out, at, s),
-        Call::Unknown => append::add_no_vector(out, at),
     }
 }

@@ -12,8 +12,11 @@ mod input;
 mod line;
 mod part;
 
+ghost use mathlib.Core.Path.{_≡_};
+ghost use mathlib.Core.Bool.{true};
 ghost use Prim.Native.Nat.{_≤_};
-ghost use lib.ListN.{length};
+ghost use lib.ListN.{length, take};
+ghost use Rattle.vectors.specs.Input.{Continued};
 
 // The most bytes of a line and its 0A, and of the text of a block: an empty line, the worst case, gives 17 bytes for one.
 const BLOCK: usize = 65536;
@@ -42,7 +45,8 @@ fn write_text(out: &[u8], n: usize) -> bool {
 // Reads after the bytes that are held; how many bytes stand in the block then. At the end of the input they are as many as before.
 fn read_more(block: &mut [u8], held: usize) -> Held
     requires { ⌜ held ≤ length (now block) ⌝ }
-    ensures { λ r. ⌜ (held ≤ r .count) × (r .count ≤ length (now (block .exit))) ⌝ }
+    ensures inside { λ r. ⌜ (held ≤ r .count) × (r .count ≤ length (now (block .exit))) ⌝ }
+    ensures holds { λ r. ⌜ take held (now (block .exit)) ≡ take held (now (block .entry)) ⌝ }
 {
     if held == block.len() {
         io::write_all(2, b"vectors: a line does not fit the buffer\n");
@@ -69,7 +73,8 @@ fn read_more(block: &mut [u8], held: usize) -> Held
 // One block: it is read, and the text of its lines is written; at the end of the input that of a last line.
 fn one_block(block: &mut [u8], out: &mut [u8], held: usize) -> Held
     requires { ⌜ held ≤ length (now block) ⌝ }
-    ensures { λ r. ⌜ r .count ≤ length (now (block .exit)) ⌝ }
+    ensures inside { λ r. ⌜ r .count ≤ length (now (block .exit)) ⌝ }
+    ensures holds { λ r. ⌜ (r .more ≡ true → Continued (take held (now (block .entry))) (take (r .count) (now (block .exit)))) ⌝ }
 {
     let read = read_more(block, held);
     let end = read.count;
