@@ -56,7 +56,7 @@ fn past_blocks(s: &[u8], from: usize, x: u8) -> usize
     i
 }
 
-// The place of the first x in s from place `from` on; the end where there is none.
+// The place of the first x in s from place `from` on; the end where there is none, and `from` where that is past the end.
 pub fn find(s: &[u8], from: usize, x: u8) -> usize
     ensures is { λ r. ⌜ r ≡ from + indexOf x (drop from (now (s .entry))) ⌝ }
     ensures inside { λ r. ⌜ (from ≤ length (now (s .entry)) → r ≤ length (now (s .entry))) ⌝ }

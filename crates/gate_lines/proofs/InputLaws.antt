@@ -13,7 +13,7 @@ use Rattle.common.specs.Lists.{listOf, written}
 use Rattle.common.proofs.ListsLaws.{length-listOf, listOf-is, written-none, length-written}
 use Rattle.bytes.specs.Bytes.{indexOf}
 use Rattle.gate_lines.proofs.LineLaws.{line-held}
-use Rattle.gate_lines.proofs.NumberLaws.{run-printed, run-output}
+use Rattle.gate_lines.proofs.PrintedLaws.{run-printed, run-output}
 use Rattle.gate_lines.specs.Line.{longest, lineIn}
 use Rattle.gate_lines.specs.Gate.{Gate, gateAfter, replyTo, replyText, fresh, endText}
 use Rattle.gate_lines.specs.Run.{runLines, printed, output, Since, since, printedFor, endFor}

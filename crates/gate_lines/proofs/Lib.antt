@@ -6,7 +6,7 @@
 -- LentLaws: what a line lends to a call
 -- LineRunLaws: a line of each kind
 -- RunLaws: the promise over every list of lines
--- NumberLaws: what a line prints, by the reading
+-- PrintedLaws: what a line prints, by the reading
 -- AnswerLineLaws: an answer line is never declined for want of room
 -- InputLaws: the input cut into lines, in whatever blocks it arrives
 -- LinesLaws: lines put together, and cut again
@@ -18,7 +18,7 @@ pub mod ReplyTextLaws
 pub mod LentLaws
 pub mod LineRunLaws
 pub mod RunLaws
-pub mod NumberLaws
+pub mod PrintedLaws
 pub mod AnswerLineLaws
 pub mod InputLaws
 pub mod LinesLaws

@@ -16,7 +16,7 @@ use Rattle.gate_lines.specs.declared.state.State.{State}
 use Rattle.gate_lines.specs.declared.state.LineReply.{LineReply}
 use Rattle.gate_lines.specs.declared.state.LineReply.the-variants.{Refused, Bad}
 use Rattle.gate_lines.specs.Run.{ReplyPromise}
-use Rattle.gate_lines.proofs.NumberLaws.{reply-promise}
+use Rattle.gate_lines.proofs.PrintedLaws.{reply-promise}
 use Rattle.gate_lines.proofs.AnswerLineLaws.{Sized, line-not-seven}
 use Rattle.gate_lines.proofs.LentLaws.{card-with}
 

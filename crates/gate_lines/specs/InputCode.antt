@@ -13,7 +13,7 @@ use Rattle.gate_lines.specs.GateCode.{cardsAfter}
 use Rattle.gate_lines.specs.Input.{mostHeld}
 use Rattle.gate_lines.specs.declared.state.State.{State}
 
--- The part of a block that is fed at once: from a place on, to the first 0A with it, or to the end.
+-- The part of a block from a place on to another, which is fed at once: `feed_line` takes it to the first 0A with it, or to the end.
 unfoldable pub partFrom : List ℕ → ℕ → ℕ → List ℕ
 partFrom block from used = take (used - from) (drop from block)
 

@@ -27,7 +27,7 @@ use Rattle.gate_lines.specs.declared.state.State.{State}
 use Rattle.gate_lines.specs.Run.{since, endFor}
 use Rattle.gate_lines.proofs.RunLaws.{run-end}
 use Rattle.gate_lines.proofs.InputLaws.{feed-append, text-append, whole-gate}
-use Rattle.gate_stream.specs.Stream.{replyMost, goesOn, Fed, endingText, EndsWith}
+use Rattle.gate_stream.specs.Stream.{replyMost, goesOn, Fed, endingText, EndsWith, EndsBy}
 
 -- ---- a block, part by part
 
@@ -149,3 +149,12 @@ ends-with object out left m e more n p f k o =
     let ends : endText (lastGate e .session) ≡ endFor (since (fresh object) (linesIn (f .bytes))) =
     ap (λ (x : InputState). endText (lastGate x .session)) at ∙ ap (λ (x : Gate). endText (x .session)) (whole-gate (fresh object) (f .bytes)) ∙ run-end object (linesIn (f .bytes)) in
     record { bytes = f .bytes; is = rw (k, o, take-append-seam) (ap₂ (λ (x y : List ℕ). x ++ y) (ap lastText at) ends) }
+
+-- by the test whether a read or a write failed
+pub ends-none : (b : Bool) (object out : List ℕ) → b ≡ true → EndsBy b object out 0
+ends-none true object out e = refl
+ends-none false object out e = clash e
+
+pub ends-some : (b : Bool) (object out : List ℕ) (n : ℕ) → b ≡ false → EndsWith object (take n out) → EndsBy b object out n
+ends-some true object out n e w = clash (sym e)
+ends-some false object out n e w = w

@@ -1,7 +1,7 @@
 -- What was fed to the program, whether it goes on, and what is printed at the end.
 -- Assumes nothing.
 use mathlib.Core.Path.{_≡_}
-use mathlib.Core.Bool.{Bool, true, _&&_}
+use mathlib.Core.Bool.{Bool, true, false, not, _&&_, _||_}
 use mathlib.Core.List.{List, _++_}
 use Prim.Native.Nat.{ℕ, _-_, _*_, _^_, _≤_}
 use lib.IntN.{ℤ, pos}
@@ -11,7 +11,6 @@ use Rattle.gate_lines.specs.Gate.{fresh, endText}
 use Rattle.gate_lines.specs.Run.{since, endFor}
 use Rattle.gate_lines.specs.Input.{linesIn, InputState, inputStart, inputAfter, lastGate, lastText}
 use Rattle.gate_stream.specs.declared.Ending.{Ending}
-use Rattle.gate_stream.specs.declared.Ending.the-variants.{Ended, Unread, Untaken}
 
 -- How many bytes are read at once.
 abbrev pub readSize : ℕ
@@ -31,6 +30,10 @@ goesOn got taken = ltZ (pos 0) got && taken
 unfoldable pub readFails : ℤ → Bool
 readFails got = ltZ got (pos 0)
 
+-- There is no stamp: the last read failed, or standard output did not take what was written.
+unfoldable pub stops : ℤ → Bool → Bool
+stops got taken = readFails got || not taken
+
 -- The second state is what the first becomes by some bytes: those that were read. Where the program would still go on, so many bytes were read that no run
 -- comes to it.
 pub record Fed (m n : InputState) (more : Bool) : Type 0 where
@@ -47,7 +50,10 @@ pub record EndsWith (object text : List ℕ) : Type 0 where
   pub bytes : List ℕ
   pub is : text ≡ lastText (inputAfter (inputStart (fresh object)) bytes) ++ endFor (since (fresh object) (linesIn bytes))
 
+-- By the test: nothing is handed on at the end where a read or a write failed.
+abbrev pub EndsBy : Bool → List ℕ → List ℕ → ℕ → Type 0
+EndsBy true object out n = n ≡ 0
+EndsBy false object out n = EndsWith object (take n out)
+
 abbrev pub EndsFor : List ℕ → List ℕ → Ending → Type 0
-EndsFor object out (Ended n) = EndsWith object (take n out)
-EndsFor object out Unread = Unit
-EndsFor object out Untaken = Unit
+EndsFor object out r = EndsBy (stops (r .got) (r .taken)) object out (r .wrote .count)

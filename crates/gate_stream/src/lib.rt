@@ -22,7 +22,7 @@ ghost use Rattle.gate_lines.specs.Gate.{textIn};
 ghost use Rattle.gate_lines.specs.GateCode.{TextFits};
 ghost use Rattle.gate_lines.specs.Input.{inputStateOf, inputAfter, textOfInput};
 ghost use Rattle.gate_lines.specs.InputCode.{partFrom};
-ghost use Rattle.gate_stream.specs.Stream.{readSize, replyMost, outSize, goesOn, readFails, Fed, endingText, EndsFor};
+ghost use Rattle.gate_stream.specs.Stream.{readSize, replyMost, outSize, goesOn, readFails, stops, Fed, endingText, EndsFor};
 
 // How many bytes are read at once, the most bytes that a byte of the input prints, and the room for what a block prints; `readSize`, `replyMost` and
 // `outSize` in the definitions.
@@ -42,9 +42,9 @@ struct BlockState {
 }
 
 // How many bytes were handed on to be written, and whether standard output took them.
-struct Wrote {
-    count: usize,
-    taken: bool,
+pub struct Wrote {
+    pub count: usize,
+    pub taken: bool,
 }
 
 // The program between two blocks: its state, how many bytes of an unfinished line are held, what the last read gave, and what was written after it.
@@ -55,11 +55,12 @@ struct InputRun {
     wrote: Wrote,
 }
 
-// How the program ended: with the text of the end, so many bytes; by a read that failed; by a write that failed.
-pub enum Ending {
-    Ended(usize),
-    Unread,
-    Untaken,
+// How the program ended: what the last read gave, whether standard output took what the lines print, and what was handed on at the end: the text of the end,
+// or nothing where a read or a write failed.
+pub struct Ending {
+    pub got: isize,
+    pub taken: bool,
+    pub wrote: Wrote,
 }
 
 // A text, stored in out from place `at` on; the place after it.
@@ -74,7 +75,7 @@ fn add(out: &mut [u8], at: usize, text: Text) -> usize
     at + len
 }
 
-// The next part of a block: one line, where it ends in the block.
+// The next part of a block: to the end of a line, or of the block.
 fn one_line(
     at: BlockState,
     cards: &mut [u64; CARDS],
@@ -181,6 +182,13 @@ fn read_fails(got: isize) -> bool
     got < 0
 }
 
+// Whether there is no stamp: the read failed, or standard output did not take what was written.
+fn stops(got: isize, taken: bool) -> bool
+    ensures { λ r. ⌜ r ≡ stops got taken ⌝ }
+{
+    read_fails(got) | !taken
+}
+
 // Blocks to the end of the input. A proved loop has to end, and nothing says that the input does: the turns are counted down from a number that no run uses up.
 fn run_input(
     fd: i32,
@@ -226,24 +234,7 @@ fn last_text(
     add(out, n, stamp)
 }
 
-// A line on standard error.
-fn complain(text: &[u8]) {
-    io::write_all(2, text);
-}
-
-// Why there is no stamp.
-fn failed(end: Ending) -> Ending
-    ensures { λ r. ⌜ r ≡ end ⌝ }
-{
-    match end {
-        Ending::Ended(_) => {}
-        Ending::Unread => complain(b"gate: the input cannot be read, so there is no stamp\n"),
-        Ending::Untaken => complain(b"gate: standard output takes no more, so there is no stamp\n"),
-    }
-    end
-}
-
-// The whole input, and the text of its end; where a read or a write failed there is none.
+// The whole input, and the text of its end, which is handed on; where a read or a write failed there is none.
 fn run_whole(
     fd: i32,
     cards: &mut [u64; CARDS],
@@ -267,18 +258,37 @@ fn run_whole(
         wrote,
     };
     let end = run_input(fd, start, cards, object, line, input, out);
-    if read_fails(end.got) {
-        return Ending::Unread;
-    }
-    if !end.wrote.taken {
-        return Ending::Untaken;
+    let got = end.got;
+    let taken = end.wrote.taken;
+    if stops(got, taken) {
+        let wrote = Wrote {
+            count: 0,
+            taken: true,
+        };
+        return Ending { got, taken, wrote };
     }
     let n = last_text(end, cards, object, line, out);
     let wrote = write_out(out, n);
-    if !wrote.taken {
-        return Ending::Untaken;
+    Ending { got, taken, wrote }
+}
+
+// A line on standard error.
+fn complain(text: &[u8]) {
+    io::write_all(2, text);
+}
+
+// The end as it is; where there is no stamp, or standard output did not take it, standard error says why.
+fn told(end: Ending) -> Ending
+    ensures { λ r. ⌜ r ≡ end ⌝ }
+{
+    if read_fails(end.got) {
+        complain(b"gate: the input cannot be read, so there is no stamp\n");
+        return end;
     }
-    Ending::Ended(wrote.count)
+    if !(end.taken & end.wrote.taken) {
+        complain(b"gate: standard output takes no more, so there is no stamp\n");
+    }
+    end
 }
 
 // The program on the file descriptor fd. What it prints at the end stands at the front of out.
@@ -289,5 +299,5 @@ pub fn run_gate(fd: i32, input: &mut [u8; READ], out: &mut [u8; OUT]) -> Ending
     let mut object = [0u8; OBJECT];
     let mut line = [0u8; HELD];
     let end = run_whole(fd, &mut cards, &mut object, &mut line, input, out);
-    failed(end)
+    told(end)
 }

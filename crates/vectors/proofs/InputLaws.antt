@@ -7,15 +7,15 @@ use Prim.Native.Nat.{ℕ, _+_, _-_, _≤_, _<_}
 use native.Mathlib.Nat.{zero-add}
 use native.Mathlib.Omega.{arith}
 use lib.Dec.{eqb}
-use lib.ListN.{length, getD, take, drop, length-take, length-drop, take-append-drop}
-use lib.Seq.{take-at, drop-at, take-take, take-add, take-all, getD-append-add, getD-drop, getD-take, length-take-le}
+use lib.ListN.{length, getD, take, drop, length-drop, take-append-drop}
+use lib.Seq.{take-at, drop-at, take-add, take-all, getD-append-add, getD-drop, getD-take, length-take-le}
 use Rattle.common.specs.Lists.{listOf, written, overFront}
 use Rattle.common.proofs.ListsLaws.{length-listOf, listOf-is}
 use Rattle.bytes.specs.Bytes.{indexOf}
 use Rattle.common.proofs.PlaceLaws.{NoEnd, none-before, with-end}
 use Rattle.vectors.specs.FascnText.{codesText}
 use Rattle.vectors.specs.Line.{lineText}
-use Rattle.vectors.specs.Input.{linesText, restOf, lastLineText, inputText, blocksText, joined, Continued, moved}
+use Rattle.vectors.specs.Input.{linesText, restOf, lastLineText, inputText, blocksText, joined, moved}
 
 -- ---- block after block
 
@@ -169,10 +169,10 @@ pub part-keeps : (b l r : List ℕ) (at : ℕ) → at ≤ length b → take at (
 part-keeps b l r at h = take-at (take at b) (l ++ r) at (length-take-le at b h)
 
 -- what is moved is what the block leaves
-pub kept-is : (b h : List ℕ) (held used end : ℕ) → held ≤ end → end ≤ length b → used ≤ end → take held b ≡ h → restOf [] (take end b) ≡ drop used (take end b)
-    → Continued h (take (end - used) (moved b used end))
-unfolding moved overFront
-kept-is b h held used end p q r e f =
+pub kept-is : (b : List ℕ) (used end : ℕ) → end ≤ length b → used ≤ end → restOf [] (take end b) ≡ drop used (take end b)
+    → (moved b used end ≡ overFront (restOf [] (take end b)) b) × (end - used ≡ length (restOf [] (take end b)))
+unfolding moved
+kept-is b used end q r f =
     let n = end - used in
     let part = take n (drop used b) in
     let size : length part ≡ n = length-take-le n (drop used b) (rw length-drop (omega (arith, r, q))) in
@@ -180,6 +180,4 @@ kept-is b h held used end p q r e f =
     let rest : drop used (take end b) ≡ part =
     ap (λ (i : ℕ). drop used (take i b)) sum ∙ ap (λ (l : List ℕ). drop used l) (take-add used n b)
     ∙ drop-at (take used b) part used (length-take-le used b (omega (arith, r, q))) in
-    let whole : h ++ drop held (take end b) ≡ take end b =
-    ap (λ (l : List ℕ). l ++ drop held (take end b)) (sym e ∙ sym (take-take held end b p)) ∙ take-append-drop held (take end b) in
-    (drop held (take end b), take-at part (drop (length part) b) n size ∙ sym rest ∙ sym f ∙ ap (restOf []) (sym whole))
+    (ap (λ (l : List ℕ). overFront l b) (sym (f ∙ rest)), sym size ∙ ap length (sym (f ∙ rest)))

@@ -1,4 +1,4 @@
--- The calls by name, and the text of each one's answer. A call is a row of `calls` and a row of `answerText`.
+-- The calls by name, and the text of each one's answer. A call is a row of `callRows` and a row of `answerText`.
 -- Assumes nothing.
 use mathlib.Core.Bool.{cond}
 use mathlib.Core.List.{List, [], _∷_}
@@ -9,19 +9,19 @@ use Rattle.vectors.specs.Append.{noVector}
 use Rattle.vectors.specs.FascnText.{unpackText, packText}
 use Rattle.vectors.specs.ObjectText.{headerText, templateText, objectText, dateText, realText}
 use Rattle.vectors.specs.CommandText.{selectText, getDataText, getResponseText, statusText}
-use Rattle.vectors.specs.declared.answer.Call.{Call}
-use Rattle.vectors.specs.declared.answer.Call.the-variants.{Unknown, Unpack, Pack, Header, Template, Date, Real, Object, Select, GetData, GetResponse, Status}
+use Rattle.vectors.specs.declared.answer.VectorCall.{VectorCall}
+use Rattle.vectors.specs.declared.answer.VectorCall.the-variants.{Unknown, Unpack, Pack, Header, Template, Date, Real, Object, Select, GetData, GetResponse, Status}
 
 -- ---- the names
 
 -- The call of a name, by rows of a name and a call.
-unfoldable pub callAmong : List (List ℕ × Call) → List ℕ → Call
+unfoldable pub callAmong : List (List ℕ × VectorCall) → List ℕ → VectorCall
 callAmong [] name = Unknown
 callAmong (r ∷ rs) name = cond (sameBytes name (r .0)) (r .1) (callAmong rs name)
 
--- The names. A number is the room of the buffer that a command is lent, and `short..` lends one that is too short.
-abbrev pub calls : List (List ℕ × Call)
-calls =
+-- The names. A number is the room of the buffer that a command is lent, and `short..` lends one that may be too short.
+abbrev pub callRows : List (List ℕ × VectorCall)
+callRows =
     -- unpack
     (0x75 ∷ 0x6E ∷ 0x70 ∷ 0x61 ∷ 0x63 ∷ 0x6B ∷ [], Unpack)
     -- pack
@@ -60,13 +60,13 @@ calls =
     ∷ (0x73 ∷ 0x74 ∷ 0x61 ∷ 0x74 ∷ 0x75 ∷ 0x73 ∷ [], Status)
     ∷ []
 
-unfoldable pub callNamed : List ℕ → Call
-callNamed name = callAmong calls name
+unfoldable pub callNamed : List ℕ → VectorCall
+callNamed name = callAmong callRows name
 
 -- ---- the answers
 
 -- What a call says of the bytes s.
-unfoldable pub answerText : Call → List ℕ → List ℕ
+unfoldable pub answerText : VectorCall → List ℕ → List ℕ
 answerText Unknown s = noVector
 answerText Unpack s = unpackText s
 answerText Pack s = packText s

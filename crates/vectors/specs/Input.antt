@@ -37,10 +37,6 @@ unfoldable pub joined : List (List ℕ) → List ℕ
 joined [] = []
 joined (b ∷ bs) = b ++ joined bs
 
--- The bytes that are held after a block, by those that were held before it: whatever was read, they are what the block leaves.
-abbrev pub Continued : List ℕ → List ℕ → Type 0
-Continued before after = (s : List ℕ) × (after ≡ restOf [] (before ++ s))
-
 -- The buffer l with its bytes from place `from` to place `end` at its front; the others are as they were.
 unfoldable pub moved : List ℕ → ℕ → ℕ → List ℕ
 moved l from end = overFront (take (end - from) (drop from l)) l

@@ -1,11 +1,13 @@
 // The input in blocks: the text of a block's lines, the bytes of a line that is not whole yet, and the text of a last line.
 use crate::append;
 use crate::line;
+use crate::part;
 use common::slice;
 ghost use mathlib.Core.Path.{_≡_};
 ghost use mathlib.Core.List.{[]};
 ghost use Prim.Native.Nat.{_-_, _≤_};
-ghost use lib.ListN.{length, drop};
+ghost use lib.ListN.{length, take, drop};
+ghost use Rattle.common.specs.Lists.{overFront};
 ghost use Rattle.vectors.specs.Append.{Added};
 ghost use Rattle.vectors.specs.Input.{linesText, restOf, lastLineText, moved};
 
@@ -53,4 +55,25 @@ pub(crate) fn keep(input: &mut [u8], from: usize, end: usize) -> usize
         input[i] = input[from + i];
     }
     n
+}
+
+// How many bytes of text a block gives, and how many of its bytes are held: those of a line that is not whole yet.
+pub(crate) struct Used {
+    pub text: usize,
+    pub held: usize,
+}
+
+// The first `end` bytes of a block: the text of their lines goes to the front of out, and what is no whole line yet to the front of the block.
+pub(crate) fn use_block(block: &mut [u8], out: &mut [u8], end: usize) -> Used
+    requires { ⌜ end ≤ length (now block) ⌝ }
+    ensures text { λ r. ⌜ Added (now (out .entry)) 0 (now (out .exit)) (r .text) (linesText [] (take end (now (block .entry)))) ⌝ }
+    ensures holds { λ r. ⌜ now (block .exit) ≡ overFront (restOf [] (take end (now (block .entry)))) (now (block .entry)) ⌝ }
+    ensures held { λ r. ⌜ (r .held ≡ length (restOf [] (take end (now (block .entry))))) × (r .held ≤ end) ⌝ }
+{
+    let done = add_lines(out, 0, part::front(block, end));
+    let held = keep(block, done.used, end);
+    Used {
+        text: done.count,
+        held,
+    }
 }

@@ -4,8 +4,8 @@
 // A line is `PLACE: CALL HEX`: where the vector is from, one word, and pairs of upper-case hexadecimal digits. What it gives is `lineText` in the definitions, and
 // src/answer.rt says how a call is added.
 //
-// The functions of this file read and write. What is read goes by blocks, and a line that does not fit a block, a text that does not fit its buffer, or a read
-// or a write that fails ends the program with a line on standard error.
+// The functions of this file read and write; what they hand on to be written is made by proved functions. What is read goes by blocks, and a line that does not
+// fit a block, a text that does not fit its buffer, or a read or a write that fails ends the program with a line on standard error.
 mod answer;
 mod append;
 mod input;
@@ -13,10 +13,8 @@ mod line;
 mod part;
 
 ghost use mathlib.Core.Path.{_≡_};
-ghost use mathlib.Core.Bool.{true};
 ghost use Prim.Native.Nat.{_≤_};
 ghost use lib.ListN.{length, take};
-ghost use Rattle.vectors.specs.Input.{Continued};
 
 // The most bytes of a line and its 0A, and of the text of a block: an empty line, the worst case, gives 17 bytes for one.
 const BLOCK: usize = 65536;
@@ -73,8 +71,7 @@ fn read_more(block: &mut [u8], held: usize) -> Held
 // One block: it is read, and the text of its lines is written; at the end of the input that of a last line.
 fn one_block(block: &mut [u8], out: &mut [u8], held: usize) -> Held
     requires { ⌜ held ≤ length (now block) ⌝ }
-    ensures inside { λ r. ⌜ r .count ≤ length (now (block .exit)) ⌝ }
-    ensures holds { λ r. ⌜ (r .more ≡ true → Continued (take held (now (block .entry))) (take (r .count) (now (block .exit)))) ⌝ }
+    ensures { λ r. ⌜ r .count ≤ length (now (block .exit)) ⌝ }
 {
     let read = read_more(block, held);
     let end = read.count;
@@ -89,11 +86,12 @@ fn one_block(block: &mut [u8], out: &mut [u8], held: usize) -> Held
             more: false,
         };
     }
-    let done = input::add_lines(out, 0, part::front(block, end));
-    let more = write_text(out, done.count);
-    let used = done.used;
-    let count = input::keep(block, used, end);
-    Held { count, more }
+    let done = input::use_block(block, out, end);
+    let more = write_text(out, done.text);
+    Held {
+        count: done.held,
+        more,
+    }
 }
 
 // The characters of figure 7, then blocks to the end of the input. A proved loop has to end, and nothing says that the input does: the turns are counted down

@@ -46,6 +46,7 @@ fn add_place(out: &mut [u8], at: usize, start: u64, len: u64) -> usize
     append::add_decimal(out, middle, len)
 }
 
+// Whether a TLV is nested, and that its place follows.
 fn add_nested(out: &mut [u8], at: usize, nested: bool) -> usize
     ensures { λ r. ⌜ Added (now (out .entry)) at (now (out .exit)) r (nestedText nested) ⌝ }
 {
@@ -93,6 +94,7 @@ pub(crate) fn add_template(out: &mut [u8], at: usize, s: &[u8]) -> usize
     append::add(out, at, b"good")
 }
 
+// Where a part lies, or that there is none.
 fn add_part(out: &mut [u8], at: usize, p: Part) -> usize
     ensures { λ r. ⌜ Added (now (out .entry)) at (now (out .exit)) r (partText p) ⌝ }
 {
@@ -210,6 +212,7 @@ fn eight_digits(s: &[u8]) -> u32
     ((two_digits(s[0]) * 100 + two_digits(s[1])) * 100 + two_digits(s[2])) * 100 + two_digits(s[3])
 }
 
+// `real`, or `not real`.
 fn add_real_or_not(out: &mut [u8], at: usize, real: bool) -> usize
     ensures { λ r. ⌜ Added (now (out .entry)) at (now (out .exit)) r (realSaid real) ⌝ }
 {

@@ -5,16 +5,16 @@ use mathlib.Core.List.{List, [], _∷_}
 use Prim.Native.Nat.{ℕ}
 use borrow.Author.Needs.{needs}
 use Rattle.common.specs.Lists.{sameBytes}
-use Rattle.vectors.specs.declared.answer.Call.{Call}
-use Rattle.vectors.specs.declared.answer.Call.the-variants.{Unknown}
+use Rattle.vectors.specs.declared.answer.VectorCall.{VectorCall}
+use Rattle.vectors.specs.declared.answer.VectorCall.the-variants.{Unknown}
 use Rattle.vectors.specs.Answer.{callAmong, callNamed}
 use Rattle.vectors.proofs.answer.call_of.Statement.{statement}
 use Rattle.vectors.proofs.answer.call_of.Tie as tie
 
-row-is : (name word : List ℕ) (call : Call) (rows : List (List ℕ × Call)) {r o : Call} → r ≡ cond (sameBytes name word) call o → o ≡ callAmong rows name
+row-is : (name word : List ℕ) (call : VectorCall) (rows : List (List ℕ × VectorCall)) {r o : VectorCall} → r ≡ cond (sameBytes name word) call o → o ≡ callAmong rows name
     → r ≡ callAmong ((word, call) ∷ rows) name
 unfolding callAmong
-row-is name word call rows p q = p ∙ ap (λ (x : Call). cond (sameBytes name word) call x) q
+row-is name word call rows p q = p ∙ ap (λ (x : VectorCall). cond (sameBytes name word) call x) q
 
 last-is : (name : List ℕ) → Unknown ≡ callAmong [] name
 unfolding callAmong
