@@ -1,8 +1,9 @@
 // The gate program on a file descriptor: its bytes are read in blocks to the end and handed to the crate gate_lines, and what that prints goes to standard output.
 //
 // No contract can say what the system reads or writes. What these contracts say: the bytes that are fed are the first of the buffer that was read into, as many as
-// the read gave; what is handed on to be written is the text of those bytes, whole; the program goes on as long as a read gives bytes and standard output takes
-// them; and what is printed at the end is the text of the definitions. `one_block` alone reads, `write_out` and `complain` alone write.
+// the read gave; what is handed on to be written is the text of those bytes, whole; the program goes on while the number that the read gave is above 0 and the
+// write said that it was taken; and what is handed on at the end is the text of the definitions, or nothing where a read or a write failed. `one_block` alone
+// reads, `write_out` and `complain` alone write.
 use common::slice;
 use gate_lines::input::HELD;
 use gate_lines::reply;
@@ -12,7 +13,6 @@ use gate_lines::state::State;
 use gate_lines::state::Text;
 use session::figures::OBJECT;
 ghost use mathlib.Core.Path.{_≡_};
-ghost use mathlib.Core.Bool.{_&&_};
 ghost use Prim.Native.Nat.{_+_, _-_, _*_, _≤_, _<_};
 ghost use lib.ListN.{length, take, replicate};
 ghost use Rattle.common.specs.Lists.{overFront, overPlaces};
