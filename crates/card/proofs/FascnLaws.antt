@@ -1,19 +1,18 @@
 -- The laws of the FASC-N: what is packed unpacks to the same digits, and what unpacks packs to the same bytes.
 -- Assumes nothing.
 use mathlib.Core.Path.{_≡_, refl, sym, ap, _∙_}
-use mathlib.Core.Bool.{Bool, true, false, not, _&&_, and-eq-true-iff}
+use mathlib.Core.Bool.{Bool, true, false, not, _&&_}
 use mathlib.Core.List.{List, [], _∷_}
 use Prim.Native.Nat.{ℕ, _^_, _<_}
 use native.Mathlib.Omega.{arith}
 use borrow.Author.Tests.{eqb-true, leb-true, eq-eqb}
 use lib.Dec.{eqb}
 use lib.ListN.{length, getD}
-use lib.Seq.{ext-getD}
-use Rattle.common.specs.Lists.{all, sameBytes}
+use Rattle.common.specs.Lists.{all}
 use Rattle.common.specs.Refusal.{refusalOf}
 use Rattle.card.specs.Fascn.{valueAt, oddAt, valuesIn, bytesOf, digitsIn, marksIn, decimalAt, checkValue, valuesOf, unpackRefusal, unpackAnswer, unpackOf, packRefusal, packOf, keyOf}
 use Rattle.card.specs.FascnCode.{checkDigits}
-use Rattle.common.proofs.ListsLaws.{all-at, all-of, length-listOf}
+use Rattle.common.proofs.ListsLaws.{all-at, length-listOf}
 use Rattle.common.proofs.NumberLaws.{number-lt}
 use Rattle.card.proofs.CharacterLaws.{values-bytes, odd-bytes, bytes-values}
 use Rattle.card.proofs.OrderLaws.{marks-values, digits-values, value-check, values-mod, check-digits, values-digits}
@@ -118,16 +117,3 @@ key-lt s p =
     rw (unpack-digits s p)
     (number-lt 10 16 (λ k. getD (digitsIn (valuesIn s)) k 0)
     (λ k h. omega (arith, leb-true (getD (digitsIn (valuesIn s)) k 0) 9 (all-at (decimalAt (digitsIn (valuesIn s))) 32 (well-formed s p .decimal) k (omega arith)))))
-
--- ---- equality
-
--- equal is equality of all bytes
-pub same-refl : (a : List ℕ) → sameBytes a a ≡ true
-unfolding sameBytes
-same-refl a = rw (eq-eqb (length a) (length a) refl) (all-of _ (length a) (λ i h. eq-eqb (getD a i 0) (getD a i 0) refl))
-
-pub same-bytes : (a b : List ℕ) → sameBytes a b ≡ true → a ≡ b
-unfolding sameBytes
-same-bytes a b p =
-    let q = and-eq-true-iff (eqb (length a) (length b)) (all (length a) (λ i. eqb (getD a i 0) (getD b i 0))) .0 p in
-    ext-getD 0 a b (eqb-true _ _ (q .0)) (λ i h. eqb-true _ _ (all-at (λ i. eqb (getD a i 0) (getD b i 0)) (length a) (q .1) i h))

@@ -8,9 +8,11 @@ use Prim.Native.Nat.{ℕ, zero, suc, _+_, _-_, _≤_, _<_}
 use native.Mathlib.Nat.{not-suc-le-zero, le-of-suc-le-suc, le-step, le-refl, eq-or-lt-of-le, add-zero, add-suc, zero-add}
 use native.Mathlib.Numerals.{add-one}
 use native.Mathlib.Omega.{arith}
+use borrow.Author.Tests.{eqb-true, eq-eqb}
+use lib.Dec.{eqb}
 use lib.ListN.{length, getD, set, take, drop, length-append, length-drop, take-append-drop, List·getD-append, length-take}
 use lib.Seq.{drop-cons, drop-length, length-take-le, append-snoc, set-at, getD-at, ext-getD, take-at, drop-at, drop-drop, take-append-seam, drop-append-add, getD-append-add, getD-drop}
-use Rattle.common.specs.Lists.{listOf, all, written, overFront, overPlaces}
+use Rattle.common.specs.Lists.{listOf, all, sameBytes, written, overFront, overPlaces}
 
 -- ---- tests
 
@@ -36,6 +38,17 @@ pub all-ext : (n : ℕ) {f g : ℕ → Bool} → ((i : ℕ) → i < n → f i �
 unfolding all
 all-ext zero h = refl
 all-ext (suc n) h = ap₂ _&&_ (all-ext n (λ i l. h i (le-step l))) (h n (le-refl (suc n)))
+
+-- all bytes are the same exactly where the lists are
+pub same-refl : (a : List ℕ) → sameBytes a a ≡ true
+unfolding sameBytes
+same-refl a = rw (eq-eqb (length a) (length a) refl) (all-of _ (length a) (λ i h. eq-eqb (getD a i 0) (getD a i 0) refl))
+
+pub same-bytes : (a b : List ℕ) → sameBytes a b ≡ true → a ≡ b
+unfolding sameBytes
+same-bytes a b p =
+    let q = and-eq-true-iff (eqb (length a) (length b)) (all (length a) (λ i. eqb (getD a i 0) (getD b i 0))) .0 p in
+    ext-getD 0 a b (eqb-true _ _ (q .0)) (λ i h. eqb-true _ _ (all-at (λ i. eqb (getD a i 0) (getD b i 0)) (length a) (q .1) i h))
 
 -- ---- lists
 

@@ -1,4 +1,4 @@
-// Numbers.
+// The lesser of two numbers, which all crates share.
 ghost use mathlib.Core.Path.{_≡_};
 ghost use Prim.Native.Nat.{_≤_, min};
 

@@ -1,14 +1,13 @@
 -- The whole run: a list of lines, the calls that they make on the session, and what is printed for each line and at the end, by document 01's reading of those calls.
 -- Assumes nothing.
 use mathlib.Core.Path.{_≡_}
-use mathlib.Core.Bool.{Bool, cond, not, _||_}
+use mathlib.Core.Bool.{Bool, cond, not}
 use mathlib.Core.List.{List, [], _∷_, _++_, map}
 use Prim.Native.Nat.{ℕ}
 use lib.Dec.{eqb}
 use lib.ListN.{length, replicate}
 use Rattle.common.specs.Refusal.{refusalOf}
-use Rattle.session.specs.Tables.{ends}
-use Rattle.session.specs.Condition.{openConditions, answerConditions}
+use Rattle.session.specs.Condition.{nothingLeft, openConditions, answerConditions}
 use Rattle.session.specs.Operation.{dead, openOf}
 use Rattle.session.specs.Reading.{Opening, Reading, begins, refusedBy, reading}
 use Rattle.session.specs.Finding.{finding, stampOf}
@@ -92,9 +91,9 @@ abbrev pub numberFor : Since → Call → ℕ
 numberFor Since.none c = 4
 numberFor (Since.from o object calls) c = refusedBy (reading (begins o) (map argumentsOf calls)) (argumentsOf c)
 
--- Nothing is left to read: all is read, or a cause ended the reading.
+-- Of a reading: nothing is left to read.
 abbrev pub ended : Reading → Bool
-ended r = eqb (r .progress .step) 3 || ends (r .progress .cause)
+ended r = nothingLeft (r .progress .step) (r .progress .cause)
 
 -- The number of an answer line, by the calls before the line. It makes the command call first, for which it has room enough; a command is then outstanding, but where the
 -- reading has ended. So 5 is left where it has, 7 by the object buffer's size, and 8 by the answer's.

@@ -1,7 +1,7 @@
 -- What was fed to the program, part by part, and what that prints. Assumes nothing.
 use mathlib.Core.Path.{_≡_, refl, sym, ap, ap₂, _∙_}
 use mathlib.Core.Bool.{Bool, true, false, _&&_}
-use mathlib.Core.List.{List, [], _∷_, _++_}
+use mathlib.Core.List.{List, [], _∷_, _++_, append-assoc}
 use Prim.Native.Nat.{ℕ, _+_, _-_, _*_, _^_, _≤_, _<_}
 use native.Mathlib.Omega.{arith}
 use Prim.Native.Nat.{zero-le, min}
@@ -18,15 +18,15 @@ use Rattle.session.specs.declared.state.Session.{Session}
 use Rattle.gate_lines.specs.Line.{lineIn}
 use Rattle.gate_lines.specs.Gate.{Gate, fresh, endText, replyTo, replyText, refusedHead, closing, refusedText, decimalText, textIn}
 use Rattle.gate_lines.specs.GateCode.{TextFits}
-use Rattle.gate_lines.specs.Input.{InputState, inputStateOf, inputAfterByte, inputAfter, textOfByte, textOfInput, linesIn, inputStart, lastGate, lastText}
+use Rattle.gate_lines.specs.Input.{InputState, inputStateOf, inputAfterByte, inputAfter, textOfByte, textOfInput, linesIn, inputStart, lastGate, lastText, printedOf}
 use Rattle.gate_lines.specs.InputCode.{partFrom}
 use Rattle.gate_lines.specs.declared.state.Text.{Text}
 use Rattle.gate_lines.specs.declared.state.LineReply.{LineReply}
 use Rattle.gate_lines.specs.declared.state.LineReply.the-variants.{Ok, Refused, Bad}
 use Rattle.gate_lines.specs.declared.state.State.{State}
-use Rattle.gate_lines.specs.Run.{since, endFor}
+use Rattle.gate_lines.specs.Run.{Since, since, printedFor, endFor}
 use Rattle.gate_lines.proofs.RunLaws.{run-end}
-use Rattle.gate_lines.proofs.InputLaws.{feed-append, text-append, whole-gate}
+use Rattle.gate_lines.proofs.InputLaws.{feed-append, text-append, whole-gate, last-promise}
 use Rattle.gate_stream.specs.Stream.{replyMost, goesOn, Fed, endingText, EndsWith, EndsBy}
 
 -- ---- a block, part by part
@@ -148,7 +148,10 @@ ends-with object out left m e more n p f k o =
     let at : e ≡ inputAfter (inputStart (fresh object)) (f .bytes) = f .is ∙ ap (λ (x : InputState). inputAfter x (f .bytes)) p in
     let ends : endText (lastGate e .session) ≡ endFor (since (fresh object) (linesIn (f .bytes))) =
     ap (λ (x : InputState). endText (lastGate x .session)) at ∙ ap (λ (x : Gate). endText (x .session)) (whole-gate (fresh object) (f .bytes)) ∙ run-end object (linesIn (f .bytes)) in
-    record { bytes = f .bytes; is = rw (k, o, take-append-seam) (ap₂ (λ (x y : List ℕ). x ++ y) (ap lastText at) ends) }
+    let before = printedOf object (f .bytes) in
+    let both : before ++ (lastText e ++ endText (lastGate e .session)) ≡ printedFor (fresh object) Since.none (linesIn (f .bytes)) ++ endFor (since (fresh object) (linesIn (f .bytes))) =
+    sym (append-assoc before (lastText e) (endText (lastGate e .session))) ∙ ap₂ (λ (x y : List ℕ). x ++ y) (last-promise e (lastText e) refl object (f .bytes) at) ends in
+    record { bytes = f .bytes; is = rw (k, o, take-append-seam) both }
 
 -- by the test whether a read or a write failed
 pub ends-none : (b : Bool) (object out : List ℕ) → b ≡ true → EndsBy b object out 0

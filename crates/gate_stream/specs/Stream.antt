@@ -8,8 +8,8 @@ use lib.IntN.{ℤ, pos}
 use lib.Signed.{ltZ}
 use lib.ListN.{length, take}
 use Rattle.gate_lines.specs.Gate.{fresh, endText}
-use Rattle.gate_lines.specs.Run.{since, endFor}
-use Rattle.gate_lines.specs.Input.{linesIn, InputState, inputStart, inputAfter, lastGate, lastText}
+use Rattle.gate_lines.specs.Run.{Since, since, printedFor, endFor}
+use Rattle.gate_lines.specs.Input.{linesIn, InputState, inputAfter, lastGate, lastText, printedOf}
 use Rattle.gate_stream.specs.declared.Ending.{Ending}
 
 -- How many bytes are read at once.
@@ -45,10 +45,11 @@ pub record Fed (m n : InputState) (more : Bool) : Type 0 where
 unfoldable pub endingText : InputState → List ℕ
 endingText m = lastText m ++ endText (lastGate m .session)
 
--- The end of the program. What is printed then is demand 3's, for the lines of some bytes: those that were read. The object buffer had any content at first.
+-- The end of the program, for some bytes, those that were read: what the reading gives their whole lines, with the text after it, is what it gives all their lines
+-- and, at the end, demand 3's stamp or its refusal. The object buffer had any content at first.
 pub record EndsWith (object text : List ℕ) : Type 0 where
   pub bytes : List ℕ
-  pub is : text ≡ lastText (inputAfter (inputStart (fresh object)) bytes) ++ endFor (since (fresh object) (linesIn bytes))
+  pub is : printedOf object bytes ++ text ≡ printedFor (fresh object) Since.none (linesIn bytes) ++ endFor (since (fresh object) (linesIn bytes))
 
 -- By the test: nothing is handed on at the end where a read or a write failed.
 abbrev pub EndsBy : Bool → List ℕ → List ℕ → ℕ → Type 0

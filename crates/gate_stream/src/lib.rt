@@ -277,8 +277,8 @@ fn complain(text: &[u8]) {
     io::write_all(2, text);
 }
 
-// The end as it is; where there is no stamp, or standard output did not take it, standard error says why.
-fn told(end: Ending) -> Ending
+// The end as it is; where there is no stamp, or standard output did not take it, a line on standard error gives the reason.
+fn with_reason(end: Ending) -> Ending
     ensures { λ r. ⌜ r ≡ end ⌝ }
 {
     if read_fails(end.got) {
@@ -299,5 +299,5 @@ pub fn run_gate(fd: i32, input: &mut [u8; READ], out: &mut [u8; OUT]) -> Ending
     let mut object = [0u8; OBJECT];
     let mut line = [0u8; HELD];
     let end = run_whole(fd, &mut cards, &mut object, &mut line, input, out);
-    told(end)
+    with_reason(end)
 }

@@ -12,7 +12,7 @@ use lib.Dec.{eqb, leb}
 use lib.ListN.{length, getD}
 use Rattle.common.specs.Lists.{sameBytes}
 use Rattle.common.proofs.ListsLaws.{all-at}
-use Rattle.card.proofs.FascnLaws.{same-bytes, same-refl}
+use Rattle.common.proofs.ListsLaws.{same-bytes, same-refl}
 use Rattle.session.specs.Tables.{checks, goodKind, needs, isIn, checkServed, outcomeOf, passed, unneeded, failed, otherCard, verdictOutcome, expiryOutcome, listed, listOutcome, lowestFrom, causeOf, allPassed, standingOf, fascnRead, keyRead, expiryRead}
 use Rattle.session.specs.Reading.{Opening, StepOne, Verdict, Found, Reading, ownFascn}
 use Rattle.session.specs.Finding.{verdictOn, finding, standing, Granted}

@@ -14,9 +14,13 @@ use Rattle.session.specs.Tables.{modeOpens, goodKind, needs, checkServed
 abbrev pub openConditions : ℕ → ℕ → List ℕ → List (ℕ × Bool)
 openConditions mode date aid = (1, not (modeOpens mode)) ∷ (2, not (realDate date)) ∷ (3, aidRefused aid) ∷ []
 
+-- Nothing is left to read: all is read, or a cause of 16 to 22 ended the reading.
+abbrev pub nothingLeft : ℕ → ℕ → Bool
+nothingLeft step cause = eqb step 3 || ends cause
+
 -- "nothing to send: step 3, a cause of 16 to 22, or a command outstanding"
 abbrev pub nothingToSend : ℕ → ℕ → Bool → Bool
-nothingToSend step cause outstanding = (eqb step 3 || ends cause) || outstanding
+nothingToSend step cause outstanding = nothingLeft step cause || outstanding
 
 -- Command: 5 nothing to send; 6 buffer shorter than the command.
 abbrev pub commandConditions : ℕ → ℕ → Bool → ℕ → ℕ → List (ℕ × Bool)

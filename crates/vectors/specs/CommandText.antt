@@ -59,10 +59,10 @@ getResponseText room s = cond (eqb (length s) 1) (commandText (getResponseOf (ge
 abbrev pub moreWord : List ℕ
 moreWord = 0x6D ∷ 0x6F ∷ 0x72 ∷ 0x65 ∷ 0x20 ∷ []
 
-unfoldable pub statusSaid : Status → List ℕ
-statusSaid Done = 0x64 ∷ 0x6F ∷ 0x6E ∷ 0x65 ∷ []
-statusSaid (More second) = moreWord ++ hexOf (second ∷ [])
-statusSaid Other = 0x6F ∷ 0x74 ∷ 0x68 ∷ 0x65 ∷ 0x72 ∷ []
+unfoldable pub textOfStatus : Status → List ℕ
+textOfStatus Done = 0x64 ∷ 0x6F ∷ 0x6E ∷ 0x65 ∷ []
+textOfStatus (More second) = moreWord ++ hexOf (second ∷ [])
+textOfStatus Other = 0x6F ∷ 0x74 ∷ 0x68 ∷ 0x65 ∷ 0x72 ∷ []
 
 abbrev pub statusText : List ℕ → List ℕ
-statusText s = statusSaid (statusOf s)
+statusText s = textOfStatus (statusOf s)

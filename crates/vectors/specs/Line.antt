@@ -28,12 +28,12 @@ mostBytes = 65536
 unfoldable pub callText : List ℕ → List ℕ → List ℕ
 callText name digits = cond (isHex digits && leb (length digits) (2 * mostBytes)) (answerText (callNamed name) (bytesIn digits)) noVector
 
-unfoldable pub saidText : List ℕ → List ℕ
-saidText s = callText (firstWord (afterPlace s)) (afterWord (afterPlace s))
+unfoldable pub answerOfLine : List ℕ → List ℕ
+answerOfLine s = callText (firstWord (afterPlace s)) (afterWord (afterPlace s))
 
 -- `LINE gives ANSWER`, and 0A
 abbrev pub givesWord : List ℕ
 givesWord = 0x20 ∷ 0x67 ∷ 0x69 ∷ 0x76 ∷ 0x65 ∷ 0x73 ∷ 0x20 ∷ []
 
 unfoldable pub lineText : List ℕ → List ℕ
-lineText s = s ++ givesWord ++ saidText s ++ (0x0A ∷ [])
+lineText s = s ++ givesWord ++ answerOfLine s ++ (0x0A ∷ [])

@@ -44,12 +44,12 @@ nestedText nested = cond nested nestedWord plainWord
 abbrev pub tagWord : List ℕ
 tagWord = 0x74 ∷ 0x61 ∷ 0x67 ∷ 0x20 ∷ []
 
-unfoldable pub headerSaid : Header → List ℕ
-headerSaid (Whole tag nested start len) = tagWord ++ hexOf (tagBytes tag) ++ nestedText nested ++ placeText start len
-headerSaid Malformed = 0x6D ∷ 0x61 ∷ 0x6C ∷ 0x66 ∷ 0x6F ∷ 0x72 ∷ 0x6D ∷ 0x65 ∷ 0x64 ∷ []
+unfoldable pub textOfHeader : Header → List ℕ
+textOfHeader (Whole tag nested start len) = tagWord ++ hexOf (tagBytes tag) ++ nestedText nested ++ placeText start len
+textOfHeader Malformed = 0x6D ∷ 0x61 ∷ 0x6C ∷ 0x66 ∷ 0x6F ∷ 0x72 ∷ 0x6D ∷ 0x65 ∷ 0x64 ∷ []
 
 abbrev pub headerText : List ℕ → List ℕ
-headerText s = headerSaid (headerOf s)
+headerText s = textOfHeader (headerOf s)
 
 -- ---- the SELECT answer
 
@@ -106,8 +106,8 @@ unfoldable pub eightDigits : List ℕ → ℕ
 eightDigits s = number 100 4 (λ i. twoDigits (getD s i 0))
 
 -- `real` or `not real`
-unfoldable pub realSaid : Bool → List ℕ
-realSaid b = cond b (0x72 ∷ 0x65 ∷ 0x61 ∷ 0x6C ∷ []) (0x6E ∷ 0x6F ∷ 0x74 ∷ 0x20 ∷ 0x72 ∷ 0x65 ∷ 0x61 ∷ 0x6C ∷ [])
+unfoldable pub textOfReal : Bool → List ℕ
+textOfReal b = cond b (0x72 ∷ 0x65 ∷ 0x61 ∷ 0x6C ∷ []) (0x6E ∷ 0x6F ∷ 0x74 ∷ 0x20 ∷ 0x72 ∷ 0x65 ∷ 0x61 ∷ 0x6C ∷ [])
 
 unfoldable pub realText : List ℕ → List ℕ
-realText s = cond (eqb (length s) 4 && all (length s) (decimalPair s)) (realSaid (realDate (eightDigits s))) noVector
+realText s = cond (eqb (length s) 4 && all (length s) (decimalPair s)) (textOfReal (realDate (eightDigits s))) noVector

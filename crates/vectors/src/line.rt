@@ -11,7 +11,7 @@ ghost use Rattle.text.specs.Hex.{bytesIn};
 ghost use Rattle.bytes.specs.Bytes.{indexOf};
 ghost use Rattle.vectors.specs.Append.{Added};
 ghost use Rattle.vectors.specs.Answer.{callNamed, answerText};
-ghost use Rattle.vectors.specs.Line.{mostBytes, callText, saidText, lineText};
+ghost use Rattle.vectors.specs.Line.{mostBytes, callText, answerOfLine, lineText};
 
 // The most bytes that a line spells; `mostBytes` in the definitions.
 const BYTES: usize = 65536;
@@ -46,8 +46,8 @@ fn add_call(out: &mut [u8], at: usize, name: &[u8], digits: &[u8]) -> usize
 }
 
 // The answer of a line.
-fn add_said(out: &mut [u8], at: usize, s: &[u8]) -> usize
-    ensures { λ r. ⌜ Added (now (out .entry)) at (now (out .exit)) r (saidText (now (s .entry))) ⌝ }
+fn add_answer_of(out: &mut [u8], at: usize, s: &[u8]) -> usize
+    ensures { λ r. ⌜ Added (now (out .entry)) at (now (out .exit)) r (answerOfLine (now (s .entry))) ⌝ }
 {
     let named = part::after(s, before_first(s, b':') + 2);
     let n = before_first(named, b' ');
@@ -60,6 +60,6 @@ pub(crate) fn add_line(out: &mut [u8], at: usize, s: &[u8]) -> usize
 {
     let line = append::add(out, at, s);
     let gives = append::add(out, line, b" gives ");
-    let said = add_said(out, gives, s);
-    append::add(out, said, b"\n")
+    let answered = add_answer_of(out, gives, s);
+    append::add(out, answered, b"\n")
 }

@@ -9,7 +9,7 @@ use common::number;
 ghost use mathlib.Core.Path.{_≡_};
 ghost use Rattle.card.specs.Command.{commandAnswer, selectOf, getDataOf, getResponseOf};
 ghost use Rattle.vectors.specs.Append.{Added};
-ghost use Rattle.vectors.specs.CommandText.{writtenText, unwrittenText, commandText, selectText, getDataText, getResponseText, statusSaid, statusText};
+ghost use Rattle.vectors.specs.CommandText.{writtenText, unwrittenText, commandText, selectText, getDataText, getResponseText, textOfStatus, statusText};
 
 // The most bytes of a buffer that a command is lent; `spareSize` in the definitions.
 const SPARE: usize = 24;
@@ -107,7 +107,7 @@ pub(crate) fn add_get_response(out: &mut [u8], at: usize, room: usize, s: &[u8])
 
 // More is to be asked for, by that byte.
 fn add_more(out: &mut [u8], at: usize, second: u8) -> usize
-    ensures { λ r. ⌜ Added (now (out .entry)) at (now (out .exit)) r (statusSaid (Status.More second)) ⌝ }
+    ensures { λ r. ⌜ Added (now (out .entry)) at (now (out .exit)) r (textOfStatus (Status.More second)) ⌝ }
 {
     let byte = [second];
     let head = append::add(out, at, b"more ");

@@ -15,7 +15,7 @@ ghost use Rattle.common.specs.Lists.{all};
 ghost use Rattle.card.specs.Tlv.{tagBytes};
 ghost use Rattle.text.specs.Hex.{hexOf};
 ghost use Rattle.vectors.specs.Append.{Added};
-ghost use Rattle.vectors.specs.ObjectText.{placeText, nestedText, headerSaid, headerText, templateText, partText, commaBefore, fieldText, shownText, shownTags, objectText, dateText, decimalPair, twoDigits, eightDigits, realSaid, realText};
+ghost use Rattle.vectors.specs.ObjectText.{placeText, nestedText, textOfHeader, headerText, templateText, partText, commaBefore, fieldText, shownText, shownTags, objectText, dateText, decimalPair, twoDigits, eightDigits, textOfReal, realText};
 
 // The bytes of a tag, high byte first, as many as it needs.
 fn add_tag(out: &mut [u8], at: usize, tag: usize) -> usize
@@ -74,7 +74,7 @@ pub(crate) fn add_header(out: &mut [u8], at: usize, s: &[u8]) -> usize
 
 // A TLV that lies whole in the bytes.
 fn add_whole(out: &mut [u8], at: usize, tag: usize, nested: bool, start: usize, len: usize) -> usize
-    ensures { λ r. ⌜ Added (now (out .entry)) at (now (out .exit)) r (headerSaid (Header.Whole tag nested start len)) ⌝ }
+    ensures { λ r. ⌜ Added (now (out .entry)) at (now (out .exit)) r (textOfHeader (Header.Whole tag nested start len)) ⌝ }
 {
     let head = append::add(out, at, b"tag ");
     let tagged = add_tag(out, head, tag);
@@ -214,7 +214,7 @@ fn eight_digits(s: &[u8]) -> u32
 
 // `real`, or `not real`.
 fn add_real_or_not(out: &mut [u8], at: usize, real: bool) -> usize
-    ensures { λ r. ⌜ Added (now (out .entry)) at (now (out .exit)) r (realSaid real) ⌝ }
+    ensures { λ r. ⌜ Added (now (out .entry)) at (now (out .exit)) r (textOfReal real) ⌝ }
 {
     if real {
         append::add(out, at, b"real")

@@ -1,12 +1,13 @@
 -- `common::slice::past_blocks` meets its contract: a turn passes 32 bytes, none of which is x. Assumes nothing.
 use mathlib.Core.Path.{_≡_, refl, sym, _∙_}
-use mathlib.Core.Bool.{Bool, true, false, not}
+use mathlib.Core.Bool.{true, false, not}
 use mathlib.Core.List.{List}
 use Prim.Native.Nat.{ℕ, zero, suc, _+_, _-_, _≤_, _<_}
 use native.Mathlib.Nat.{add-zero}
 use native.Mathlib.Numerals.{add-one, one-add}
 use native.Mathlib.Omega.{arith}
 use borrow.Author.Needs.{needs}
+use borrow.Author.Tests.{not-true, not-false}
 use lib.Dec.{eqb}
 use lib.ListN.{length, getD, drop}
 use lib.Seq.{drop-cons}
@@ -20,14 +21,6 @@ use Rattle.common.proofs.slice.past_blocks.Tie as tie
 past : (x : ℕ) (s : List ℕ) (i : ℕ) → i < length s → eqb (getD s i 0) x ≡ false → indexOf x (drop i s) ≡ 1 + indexOf x (drop (i + 1) s)
 unfolding indexOf indexAfter
 past x s i h n = rw (drop-cons s i 0 h, n, add-one, one-add)
-
-not-true : (b : Bool) → not b ≡ true → b ≡ false
-not-true true e = sym e
-not-true false e = refl
-
-not-false : (b : Bool) → not b ≡ false → b ≡ true
-not-false true e = refl
-not-false false e = sym e
 
 -- n of them
 passed : (x : ℕ) (s : List ℕ) (i n : ℕ) → i + n ≤ length s → ((j : ℕ) → j < n → eqb (getD s (i + j) 0) x ≡ false)

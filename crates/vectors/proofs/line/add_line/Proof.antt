@@ -9,10 +9,10 @@ returns : tie.Need-returns
 unfolding lineText
 returns c =
     let at-add3 = c .before .before in
-    let at-add-said = at-add3 .before .before .before .before .before in
-    let at-add2 = at-add-said .before .before .before .before in
+    let at-answer = at-add3 .before .before .before .before .before in
+    let at-add2 = at-answer .before .before .before .before in
     let at-add = at-add2 .before .before .before .before .before in
-    at-add .add .ensures then at-add2 .add2 .ensures then at-add-said .add-said .ensures then at-add3 .add3 .ensures
+    at-add .add .ensures then at-add2 .add2 .ensures then at-answer .add-answer-of .ensures then at-add3 .add3 .ensures
 
 pub add-line-spec : {M : Type 1} → statement M
 add-line-spec =

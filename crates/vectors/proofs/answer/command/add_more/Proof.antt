@@ -1,12 +1,12 @@
 -- `vectors::answer::command::add_more` meets its contract: two texts. Assumes nothing.
 use borrow.Author.Needs.{needs}
-use Rattle.vectors.specs.CommandText.{statusSaid}
+use Rattle.vectors.specs.CommandText.{textOfStatus}
 use Rattle.vectors.proofs.AppendLaws.{_then_}
 use Rattle.vectors.proofs.answer.command.add_more.Statement.{statement}
 use Rattle.vectors.proofs.answer.command.add_more.Tie as tie
 
 returns : tie.Need-returns
-unfolding statusSaid
+unfolding textOfStatus
 returns c =
     let at-add-hex = c .before .before in
     let at-add = at-add-hex .before .before .before .before .before in

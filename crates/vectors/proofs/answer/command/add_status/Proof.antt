@@ -1,11 +1,11 @@
 -- `vectors::answer::command::add_status` meets its contract: by the status's case. Assumes nothing.
 use borrow.Author.Needs.{needs}
-use Rattle.vectors.specs.CommandText.{statusSaid}
+use Rattle.vectors.specs.CommandText.{textOfStatus}
 use Rattle.vectors.proofs.answer.command.add_status.Statement.{statement}
 use Rattle.vectors.proofs.answer.command.add_status.Tie as tie
 
 returns : tie.Need-returns
-unfolding statusSaid
+unfolding textOfStatus
 returns c =
     let at-add = c .before .before in
     let at-enum-told = at-add .before .before .before in
@@ -20,7 +20,7 @@ returns-2 c =
     rw (← at-status-of .status-of .ensures, at-second .second .given .1) (at-add-more .add-more .ensures)
 
 returns-3 : tie.Need-returns-3
-unfolding statusSaid
+unfolding textOfStatus
 returns-3 c =
     let at-add2 = c .before .before in
     let at-enum-told2 = at-add2 .before .before .before in

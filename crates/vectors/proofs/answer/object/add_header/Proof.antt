@@ -1,6 +1,6 @@
 -- `vectors::answer::object::add_header` meets its contract: by the header's case. Assumes nothing.
 use borrow.Author.Needs.{needs}
-use Rattle.vectors.specs.ObjectText.{headerSaid}
+use Rattle.vectors.specs.ObjectText.{textOfHeader}
 use Rattle.vectors.proofs.answer.object.add_header.Statement.{statement}
 use Rattle.vectors.proofs.answer.object.add_header.Tie as tie
 
@@ -12,7 +12,7 @@ returns c =
     rw (← at-header-of .header-of .ensures, at-tag .tag .given .1) (at-add-whole .add-whole .ensures)
 
 returns-2 : tie.Need-returns-2
-unfolding headerSaid
+unfolding textOfHeader
 returns-2 c =
     let at-add = c .before .before in
     let at-enum-told = at-add .before .before .before in

@@ -7,7 +7,7 @@ use lib.Dec.{eqb}
 use lib.ListN.{length}
 use Rattle.common.specs.Lists.{all}
 use Rattle.card.specs.Date.{realDate}
-use Rattle.vectors.specs.ObjectText.{decimalPair, realSaid, realText}
+use Rattle.vectors.specs.ObjectText.{decimalPair, textOfReal, realText}
 use Rattle.common.proofs.TestLaws.{and-left}
 use Rattle.vectors.proofs.AppendLaws.{same-text, when, unless}
 use Rattle.vectors.proofs.answer.object.add_real.Statement.{statement}
@@ -30,7 +30,7 @@ returns c =
     let start = at-all-decimal .before .before .before in
     let s = start .args .s .now in
     let test : eqb (length s) 4 && all (length s) (decimalPair s) ≡ true = rw (← at-all-decimal .all-decimal .ensures) (test′ .if1 .taken) in
-    when _ test (same-text (ap realSaid (at-real .real .ensures ∙ ap realDate (at-eight-digits .eight-digits .ensures))) (at-add-real-or-not .add-real-or-not .ensures))
+    when _ test (same-text (ap textOfReal (at-real .real .ensures ∙ ap realDate (at-eight-digits .eight-digits .ensures))) (at-add-real-or-not .add-real-or-not .ensures))
 
 returns-2 : tie.Need-returns-2
 unfolding realText

@@ -1,19 +1,19 @@
 -- `vectors::answer::object::add_real_or_not` meets its contract: one text or the other. Assumes nothing.
 use borrow.Author.Needs.{needs}
-use Rattle.vectors.specs.ObjectText.{realSaid}
+use Rattle.vectors.specs.ObjectText.{textOfReal}
 use Rattle.vectors.proofs.AppendLaws.{when, unless}
 use Rattle.vectors.proofs.answer.object.add_real_or_not.Statement.{statement}
 use Rattle.vectors.proofs.answer.object.add_real_or_not.Tie as tie
 
 returns : tie.Need-returns
-unfolding realSaid
+unfolding textOfReal
 returns c =
     let at-add = c .before .before in
     let test = at-add .before .before .before in
     when _ (test .if1 .taken) (at-add .add .ensures)
 
 returns-2 : tie.Need-returns-2
-unfolding realSaid
+unfolding textOfReal
 returns-2 c =
     let at-add2 = c .before .before in
     let test = at-add2 .before .before .before in

@@ -1,12 +1,12 @@
 -- `vectors::answer::object::add_whole` meets its contract: four texts. Assumes nothing.
 use borrow.Author.Needs.{needs}
-use Rattle.vectors.specs.ObjectText.{headerSaid}
+use Rattle.vectors.specs.ObjectText.{textOfHeader}
 use Rattle.vectors.proofs.AppendLaws.{_then_}
 use Rattle.vectors.proofs.answer.object.add_whole.Statement.{statement}
 use Rattle.vectors.proofs.answer.object.add_whole.Tie as tie
 
 returns : tie.Need-returns
-unfolding headerSaid
+unfolding textOfHeader
 returns c =
     let at-add-place = c .before .before in
     let at-add-nested = at-add-place .before .before .before .before in
