@@ -1,17 +1,17 @@
 -- Commands: how long each is, and what its answer says of the buffer.
 -- Assumes nothing.
-use mathlib.Core.Path.{_≡_, refl}
+use mathlib.Core.Path.{_≡_, refl, ap}
 use mathlib.Core.Bool.{false, and-eq-true-iff}
-use mathlib.Core.List.{List, [], _∷_}
-use Prim.Native.Nat.{ℕ, _+_, _≤_, _<_}
+use mathlib.Core.List.{List, [], _∷_, _++_}
+use Prim.Native.Nat.{ℕ, zero, suc, _+_, _-_, _≤_, _<_}
 use native.Mathlib.Omega.{arith}
 use borrow.Author.Tests.{leb-true, not-false, lt-ltb, le-ltb, ne-eqb}
 use lib.Dec.{leb}
-use lib.ListN.{length, length-append}
+use lib.ListN.{length, set, length-set, length-append}
+use lib.Seq.{set-append-seam}
 use Rattle.common.specs.Lists.{overFront}
-use Rattle.common.specs.Refusal.{refusalOf}
 use Rattle.card.specs.Object.{objectTag}
-use Rattle.card.specs.Command.{selectBeside, selectBytes, getDataBytes, getResponseBytes, commandWritten, aidLeast, aidMost, aidRefused, tooShort, selectOf, getDataOf, getResponseOf}
+use Rattle.card.specs.Command.{withLast, selectBeside, selectBytes, getDataBytes, getResponseBytes, commandWritten, commandInto, aidLeast, aidMost, aidRefused, selectOf, getDataOf, getResponseOf}
 use Rattle.card.specs.declared.object.Kind.{Kind}
 use Rattle.card.specs.declared.object.Kind.the-variants.{Signed, Unsigned, Fingers}
 
@@ -39,6 +39,52 @@ pub get-response-length : (x : ℕ) → length (getResponseBytes x) ≡ 5
 unfolding getResponseBytes
 get-response-length x = refl
 
+-- ---- the last byte
+
+-- the last byte is replaced, and the bytes before it stay
+pub with-last : (c : List ℕ) (x last : ℕ) → withLast (c ++ (x ∷ [])) last ≡ c ++ (last ∷ [])
+unfolding withLast
+with-last c x last =
+    let n : length (c ++ (x ∷ [])) - 1 ≡ length c = rw length-append (omega arith) in
+    rw n (set-append-seam c x [] last)
+
+-- the last byte replaced twice
+pub with-last-twice : (c : List ℕ) (a b : ℕ) → withLast (withLast c a) b ≡ withLast c b
+unfolding withLast
+with-last-twice c a b = rw length-set (twice c (length c - 1))
+  where
+    twice : (l : List ℕ) (i : ℕ) → set (set l i a) i b ≡ set l i b
+    twice [] i = refl
+    twice (x ∷ xs) zero = refl
+    twice (x ∷ xs) (suc i) = ap (λ (r : List ℕ). x ∷ r) (twice xs i)
+
+pub length-last : (c : List ℕ) (last : ℕ) → length (withLast c last) ≡ length c
+unfolding withLast
+length-last c last = length-set c (length c - 1) last
+
+-- SELECT and GET DATA with another last byte
+pub select-last : (aid : List ℕ) (last : ℕ) → withLast (selectBytes aid) last ≡ (0x00 ∷ 0xA4 ∷ 0x04 ∷ 0x00 ∷ []) ++ (length aid ∷ []) ++ aid ++ (last ∷ [])
+unfolding selectBytes
+select-last aid last = with-last ((0x00 ∷ 0xA4 ∷ 0x04 ∷ 0x00 ∷ []) ++ (length aid ∷ []) ++ aid) 0x00 last
+
+pub get-data-last : (k : Kind) (last : ℕ) → withLast (getDataBytes k) last ≡ (0x00 ∷ 0xCB ∷ 0x3F ∷ 0xFF ∷ 0x05 ∷ 0x5C ∷ 0x03 ∷ []) ++ objectTag k ++ (last ∷ [])
+unfolding getDataBytes
+get-data-last k last = with-last ((0x00 ∷ 0xCB ∷ 0x3F ∷ 0xFF ∷ 0x05 ∷ 0x5C ∷ 0x03 ∷ []) ++ objectTag k) 0x00 last
+
+-- with 00 they are as they were
+pub select-first : (aid : List ℕ) → withLast (selectBytes aid) 0x00 ≡ selectBytes aid
+unfolding selectBytes
+select-first aid = select-last aid 0x00
+
+pub get-data-first : (k : Kind) → withLast (getDataBytes k) 0x00 ≡ getDataBytes k
+unfolding getDataBytes
+get-data-first k = get-data-last k 0x00
+
+-- GET RESPONSE with its last byte replaced is GET RESPONSE with that byte
+pub get-response-last : (second last : ℕ) → withLast (getResponseBytes second) last ≡ getResponseBytes last
+unfolding getResponseBytes withLast
+get-response-last second last = refl
+
 -- ---- the answer
 
 -- an AID that is not refused has no more than the most bytes
@@ -47,12 +93,12 @@ aid-most aid e = leb-true (length aid) aidMost (and-eq-true-iff (leb aidLeast (l
 
 -- a command that fits stands in front of the buffer
 pub command-fits : (c out : List ℕ) {k : ℕ} {m : List ℕ} → length c ≤ length out → k ≡ length c → m ≡ overFront c out
-    → ((0, k), m) ≡ commandWritten (refusalOf ((6, tooShort out c) ∷ [])) c out
+    → ((0, k), m) ≡ commandInto c out
 unfolding commandWritten
 command-fits c out h e f = rw (le-ltb _ _ h, e, f)
 
 -- one that does not is refused
-pub command-short : (c out : List ℕ) → length out < length c → ((6, 0), out) ≡ commandWritten (refusalOf ((6, tooShort out c) ∷ [])) c out
+pub command-short : (c out : List ℕ) → length out < length c → ((6, 0), out) ≡ commandInto c out
 unfolding commandWritten
 command-short c out h = rw (lt-ltb _ _ h)
 
@@ -62,14 +108,14 @@ unfolding commandWritten
 refused-same n c out h = rw (ne-eqb n 0 (λ (e : n ≡ 0). h (rw e)))
 
 -- the same of SELECT
-pub select-refused : (aid out : List ℕ) → (selectOf aid out .0 .0 ≡ 0 → ⊥) → selectOf aid out .1 ≡ out
+pub select-refused : (aid out : List ℕ) (last : ℕ) → (selectOf aid last out .0 .0 ≡ 0 → ⊥) → selectOf aid last out .1 ≡ out
 unfolding selectOf
-select-refused aid out h = refused-same _ (selectBytes aid) out h
+select-refused aid out last h = refused-same _ (withLast (selectBytes aid) last) out h
 
 -- the same of GET DATA
-pub get-data-refused : (k : Kind) (out : List ℕ) → (getDataOf k out .0 .0 ≡ 0 → ⊥) → getDataOf k out .1 ≡ out
+pub get-data-refused : (k : Kind) (last : ℕ) (out : List ℕ) → (getDataOf k last out .0 .0 ≡ 0 → ⊥) → getDataOf k last out .1 ≡ out
 unfolding getDataOf
-get-data-refused k out h = refused-same _ (getDataBytes k) out h
+get-data-refused k last out h = refused-same _ (withLast (getDataBytes k) last) out h
 
 -- the same of GET RESPONSE
 pub get-response-refused : (x : ℕ) (out : List ℕ) → (getResponseOf x out .0 .0 ≡ 0 → ⊥) → getResponseOf x out .1 ≡ out

@@ -1,10 +1,10 @@
--- Commands (document 01, section Commands), and the status words of answers.
+-- Commands (document 01, section Commands), a command sent again with another last byte (document 02, request 1), and the status words of answers.
 -- Assumes nothing.
 use mathlib.Core.Bool.{Bool, cond, not, _&&_}
 use mathlib.Core.List.{List, [], _∷_, _++_}
-use Prim.Native.Nat.{ℕ, _+_}
+use Prim.Native.Nat.{ℕ, _+_, _-_}
 use lib.Dec.{eqb, ltb, leb}
-use lib.ListN.{length, getD, take}
+use lib.ListN.{length, getD, set, take}
 use Rattle.common.specs.Lists.{overFront, sameBytes}
 use Rattle.common.specs.Refusal.{refusalOf}
 use Rattle.card.specs.Object.{objectTag}
@@ -12,7 +12,7 @@ use Rattle.card.specs.declared.object.Kind.{Kind}
 use Rattle.card.specs.declared.command.CommandAnswer.{CommandAnswer}
 use Rattle.card.specs.declared.command.CommandAnswer.the-variants.{Written, WrongAid, ShortBuffer}
 use Rattle.card.specs.declared.command.Status.{Status}
-use Rattle.card.specs.declared.command.Status.the-variants.{Done, More, Other}
+use Rattle.card.specs.declared.command.Status.the-variants.{Done, More, Again, Other}
 
 -- ---- the bytes of a command
 
@@ -27,6 +27,10 @@ getDataBytes k = (0x00 ∷ 0xCB ∷ 0x3F ∷ 0xFF ∷ 0x05 ∷ 0x5C ∷ 0x03 ∷
 -- GET RESPONSE: 00 C0 00 00, then the second status byte of the answer just taken.
 unfoldable pub getResponseBytes : ℕ → List ℕ
 getResponseBytes second = (0x00 ∷ 0xC0 ∷ 0x00 ∷ 0x00 ∷ []) ++ (second ∷ [])
+
+-- "the same one with its last byte replaced by the second status byte", whichever command it is. In SELECT and GET DATA the last byte is 00 until then.
+unfoldable pub withLast : List ℕ → ℕ → List ℕ
+withLast c last = set c (length c - 1) last
 
 -- ---- writing it
 
@@ -58,16 +62,21 @@ aidRefused aid = not (goodAid (length aid))
 abbrev pub tooShort : List ℕ → List ℕ → Bool
 tooShort out c = ltb (length out) (length c)
 
-unfoldable pub selectOf : List ℕ → List ℕ → (ℕ × ℕ) × List ℕ
-selectOf aid out =
-    commandWritten (refusalOf ((3, aidRefused aid) ∷ (6, tooShort out (selectBytes aid)) ∷ [])) (selectBytes aid) out
+-- A command with no other condition.
+abbrev pub commandInto : List ℕ → List ℕ → (ℕ × ℕ) × List ℕ
+commandInto c out = commandWritten (refusalOf ((6, tooShort out c) ∷ [])) c out
 
-unfoldable pub getDataOf : Kind → List ℕ → (ℕ × ℕ) × List ℕ
-getDataOf k out = commandWritten (refusalOf ((6, tooShort out (getDataBytes k)) ∷ [])) (getDataBytes k) out
+-- SELECT and GET DATA with a last byte: 00, or the one that a card put in its place.
+unfoldable pub selectOf : List ℕ → ℕ → List ℕ → (ℕ × ℕ) × List ℕ
+selectOf aid last out =
+    let c = withLast (selectBytes aid) last in
+    commandWritten (refusalOf ((3, aidRefused aid) ∷ (6, tooShort out c) ∷ [])) c out
+
+unfoldable pub getDataOf : Kind → ℕ → List ℕ → (ℕ × ℕ) × List ℕ
+getDataOf k last out = commandInto (withLast (getDataBytes k) last) out
 
 unfoldable pub getResponseOf : ℕ → List ℕ → (ℕ × ℕ) × List ℕ
-getResponseOf second out =
-    commandWritten (refusalOf ((6, tooShort out (getResponseBytes second)) ∷ [])) (getResponseBytes second) out
+getResponseOf second out = commandInto (getResponseBytes second) out
 
 -- The answer of the code: document 01's number of each case, and the count beside it.
 abbrev pub commandNumber : CommandAnswer → ℕ
@@ -82,8 +91,10 @@ commandAnswer ShortBuffer = (6, 0)
 
 -- ---- status words
 
--- "Status neither 90 00 nor 61 with any second byte" is another.
+-- "Status neither 90 00 nor 61 with any second byte" is another, but that 6C with any second byte is "send that again with this Le" (document 02, request 1).
 unfoldable pub statusOf : List ℕ → Status
 statusOf s =
+    let startsWith : ℕ → Bool = λ first. sameBytes (take 1 s) (first ∷ []) in
     cond (not (eqb (length s) 2)) Other
-    (cond (sameBytes s (0x90 ∷ 0x00 ∷ [])) Done (cond (sameBytes (take 1 s) (0x61 ∷ [])) (More (getD s 1 0)) Other))
+    (cond (sameBytes s (0x90 ∷ 0x00 ∷ [])) Done
+    (cond (startsWith 0x61) (More (getD s 1 0)) (cond (startsWith 0x6C) (Again (getD s 1 0)) Other)))

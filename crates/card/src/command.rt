@@ -1,4 +1,4 @@
-// Commands and status words (document 01, section Commands): SELECT, GET DATA and GET RESPONSE written to the front of a lent buffer.
+// Commands and status words (document 01, section Commands; document 02, request 1): SELECT, GET DATA and GET RESPONSE written to the front of a lent buffer.
 use crate::object::Kind;
 use common::slice;
 ghost use mathlib.Core.Path.{_≡_};
@@ -39,9 +39,12 @@ pub fn good_aid(n: usize) -> bool
     (AID_LEAST <= n) & (n <= AID_MOST)
 }
 
-// SELECT: 00 A4 04 00, AID length, AID, 00.
-pub fn select(aid: &[u8], out: &mut [u8]) -> CommandAnswer
-    ensures { λ r. ⌜ (commandAnswer r, now (out .exit)) ≡ selectOf (now (aid .entry)) (now (out .entry)) ⌝ }
+// The last byte of SELECT and of GET DATA, until a card puts another in its place.
+pub const FIRST_LAST: u8 = 0x00;
+
+// SELECT: 00 A4 04 00, AID length, AID, last byte.
+pub fn select(aid: &[u8], last: u8, out: &mut [u8]) -> CommandAnswer
+    ensures { λ r. ⌜ (commandAnswer r, now (out .exit)) ≡ selectOf (now (aid .entry)) last (now (out .entry)) ⌝ }
 {
     let n = aid.len();
     if !good_aid(n) {
@@ -52,10 +55,11 @@ pub fn select(aid: &[u8], out: &mut [u8]) -> CommandAnswer
         return CommandAnswer::ShortBuffer;
     }
     let count = [n as u8];
+    let end = [last];
     slice::store(out, 0, b"\x00\xA4\x04\x00");
     slice::store(out, 4, &count);
     slice::store(out, 5, aid);
-    slice::store(out, 5 + n, b"\x00");
+    slice::store(out, 5 + n, &end);
     CommandAnswer::Written(total)
 }
 
@@ -80,21 +84,22 @@ const GET_DATA_BYTES: usize = 11;
 
 const GET_RESPONSE_BYTES: usize = 5;
 
-// GET DATA: 00 CB 3F FF 05 5C 03, three tag bytes, 00.
-pub fn get_data(kind: Kind, out: &mut [u8]) -> CommandAnswer
-    ensures { λ r. ⌜ (commandAnswer r, now (out .exit)) ≡ getDataOf kind (now (out .entry)) ⌝ }
+// GET DATA: 00 CB 3F FF 05 5C 03, three tag bytes, last byte.
+pub fn get_data(kind: Kind, last: u8, out: &mut [u8]) -> CommandAnswer
+    ensures { λ r. ⌜ (commandAnswer r, now (out .exit)) ≡ getDataOf kind last (now (out .entry)) ⌝ }
 {
     if out.len() < GET_DATA_BYTES {
         return CommandAnswer::ShortBuffer;
     }
     let tag = object_tag(kind);
+    let end = [last];
     slice::store(out, 0, b"\x00\xCB\x3F\xFF\x05\x5C\x03");
     slice::store(out, 7, &tag);
-    slice::store(out, 10, b"\x00");
+    slice::store(out, 10, &end);
     CommandAnswer::Written(GET_DATA_BYTES)
 }
 
-// GET RESPONSE: 00 C0 00 00, then the second status byte of the answer just taken.
+// GET RESPONSE: 00 C0 00 00, then the second status byte of the answer just taken, be it 61 or 6C.
 pub fn get_response(second: u8, out: &mut [u8]) -> CommandAnswer
     ensures { λ r. ⌜ (commandAnswer r, now (out .exit)) ≡ getResponseOf second (now (out .entry)) ⌝ }
 {
@@ -107,10 +112,11 @@ pub fn get_response(second: u8, out: &mut [u8]) -> CommandAnswer
     CommandAnswer::Written(GET_RESPONSE_BYTES)
 }
 
-// What a status word says: 90 00, all is sent; 61 and a byte, more is to be asked for; any other.
+// What a status word says: 90 00, all is sent; 61 and a byte, more is to be asked for; 6C and a byte, send that again with this last byte; any other.
 pub enum Status {
     Done,
     More(u8),
+    Again(u8),
     Other,
 }
 
@@ -125,7 +131,10 @@ pub fn status_of(s: &[u8]) -> Status
         return Status::Done;
     }
     if slice::same(&s[..1], b"\x61") {
-        Status::More(s[1])
+        return Status::More(s[1]);
+    }
+    if slice::same(&s[..1], b"\x6C") {
+        Status::Again(s[1])
     } else {
         Status::Other
     }
