@@ -12,8 +12,8 @@ use Rattle.common.proofs.ListsLaws.{length-over}
 use Rattle.common.specs.Lists.{overPlaces}
 use Rattle.card.specs.Command.{statusOf}
 use Rattle.card.specs.declared.command.Status.{Status}
-use Rattle.card.specs.declared.command.Status.the-variants.{Done, More, Other}
-use Rattle.session.specs.Tables.{statusCause, baseOf, capacity, objectSize, isResponse, joinedCause, statusShown}
+use Rattle.card.specs.declared.command.Status.the-variants.{Done, More, Again, Other}
+use Rattle.session.specs.Tables.{statusCause, baseOf, capacity, objectSize, NextCommand, joinedCause, statusShown}
 use Rattle.session.specs.Condition.{answerConditions}
 use Rattle.session.specs.Reading.{Found, Reading, withProgress, answerRefused, stopped, continued, judged, appended, causeBy, answerTaken}
 use Rattle.session.specs.Ranges.{causeInRange}
@@ -23,7 +23,7 @@ use Rattle.common.proofs.TestLaws.{clash, and-left, and-right, by-test}
 use Rattle.common.proofs.ConditionLaws.{none-fit}
 use Rattle.session.proofs.RuleLaws.{rule-in-range, rule-fits, joined-in-range}
 use Rattle.session.proofs.BytesLaws.{append-bytes}
-use Rattle.session.proofs.Invariant.{next-same, session-of, progress-of, Held, GoodOne, OneHeld, TwoHeld, Stage, Invariant, StandsFor}
+use Rattle.session.proofs.Invariant.{next-of, next-cause, session-of, progress-of, Held, GoodOne, OneHeld, TwoHeld, Stage, Invariant, StandsFor}
 use Rattle.session.proofs.InRangeLaws.{in-range}
 use Rattle.session.proofs.FigureLaws.{base-fits, steps-apart}
 use Rattle.session.proofs.BufferLaws.{holds-more, before-stays}
@@ -114,9 +114,9 @@ module _ (r : Reading) (m xs : List ℕ) (i : Invariant r m) (size : length m �
   new-held : take (length (old ++ xs)) (drop base (overPlaces m (base + length old) xs)) ≡ old ++ xs
   new-held = rw length-append (holds-more m old xs base room (i .held))
 
-  -- after 61
-  continues : (second : ℕ) → StandsFor (withSessionProgress (session-of r) (progressContinued (progress-of (r .progress)) (length xs) second)) (overPlaces m (base + length old) xs) (withProgress r (continued (r .progress) (old ++ xs) second))
-  continues second =
+  -- after 61, and after 6C
+  continues : (next : NextCommand) → StandsFor (withSessionProgress (session-of r) (progressContinued (progress-of (r .progress)) (length xs) (next-of next))) (overPlaces m (base + length old) xs) (withProgress r (continued (r .progress) (old ++ xs) next))
+  continues next =
       record {
         object = overPlaces m (base + length old) xs;
         same = rw length-append;
@@ -140,7 +140,8 @@ module _ (r : Reading) (m xs : List ℕ) (i : Invariant r m) (size : length m �
 
   appends : (st : Status) (cancelled : List ℕ)
       → StandsFor (appendedSession st (session-of r) (joinedIn (progress-of (r .progress)) (overPlaces m (base + length old) xs) (length xs)) (length xs) cancelled) (overPlaces m (base + length old) xs) (appended st r (old ++ xs) cancelled)
-  appends (More second) cancelled = continues second
+  appends (More second) cancelled = continues (NextCommand.getResponse second)
+  appends (Again last) cancelled = continues (NextCommand.again (r .progress .next) last)
   appends Done cancelled = joins cancelled
   appends Other cancelled = joins cancelled
 
@@ -158,10 +159,10 @@ takes-answer r m xs status cancelled i size lt b =
     let st = statusOf status in
     let most = capacity (r .opening .mode) (r .progress .step) in
     let k = causeBy (r .progress) most st xs in
-    rw (next-same (r .progress .next))
+    rw next-cause
     (both _ _ _ _ _ _ (eqb k 0)
-    (λ e. appends r m xs i size lt (rule-fits st (isResponse (r .progress .next)) (length xs) (length (r .progress .joined)) most (eqb-true k 0 e)) b st cancelled)
-    (λ e. stops r m m (r .progress .joined) k _ _ i (leaves-same r m i size) lt (i .progress-good .filled) (i .progress-good .bytes) (i .held) (rule-in-range st (isResponse (r .progress .next)) (length xs) (length (r .progress .joined)) most) (shown-once (eqb k statusCause) (getD status 0 0)) (shown-once (eqb k statusCause) (getD status 1 0))))
+    (λ e. appends r m xs i size lt (rule-fits st (r .progress .next) (length xs) (length (r .progress .joined)) most (eqb-true k 0 e)) b st cancelled)
+    (λ e. stops r m m (r .progress .joined) k _ _ i (leaves-same r m i size) lt (i .progress-good .filled) (i .progress-good .bytes) (i .held) (rule-in-range st (r .progress .next) (length xs) (length (r .progress .joined)) most) (shown-once (eqb k statusCause) (getD status 0 0)) (shown-once (eqb k statusCause) (getD status 1 0))))
 
 -- ---- the call
 

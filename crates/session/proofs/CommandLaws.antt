@@ -18,7 +18,7 @@ use Rattle.session.specs.Ranges.{stepInRange, causeInRange}
 use Rattle.session.specs.Operation.{commandIn, commandRefusal, commandOf, commandBuffer}
 use Rattle.common.proofs.TestLaws.{and-left, and-both, or-left, or-right}
 use Rattle.common.proofs.ConditionLaws.{none-fit}
-use Rattle.session.proofs.Invariant.{next-same, session-of, GoodProgress, Invariant}
+use Rattle.session.proofs.Invariant.{next-bytes, session-of, GoodProgress, Invariant}
 use Rattle.session.proofs.InRangeLaws.{in-range}
 
 -- the AID is what was given, without the zeros after it
@@ -28,7 +28,7 @@ aid-kept aid = take-append-seam aid (drop (length aid) (replicate aidMost 0))
 
 pub command-is : (r : Reading) → commandIn (session-of r) ≡ nextCommand r
 unfolding commandIn
-command-is r = rw (aid-kept (r .opening .aid), next-same (r .progress .next))
+command-is r = rw (aid-kept (r .opening .aid)) (next-bytes (r .opening .mode) (r .opening .aid) (r .progress .step) (r .progress .next))
 
 pub command-number : (r : Reading) (m : List ℕ) (room : ℕ) → Invariant r m → commandRefusal (session-of r) room ≡ commandRefused r room
 unfolding commandRefusal commandRefused

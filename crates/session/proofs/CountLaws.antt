@@ -1,9 +1,9 @@
--- At most 4,098 answers are taken in a step, and 12,294 in all (`answersMost`), whatever the calls are: a law of the reading.
+-- At most 8,196 answers are taken in a step, and 24,588 in all (`answersMost`), whatever the calls are: a law of the reading.
 -- Assumes nothing.
 use mathlib.Core.Path.{_≡_, refl, sym, ap, subst, _∙_}
 use mathlib.Core.Bool.{Bool, true, false, cond, _&&_, _||_}
 use mathlib.Core.List.{List, [], _∷_, _++_}
-use Prim.Native.Nat.{ℕ, zero, suc, _+_, _-_, _≤_, _<_}
+use Prim.Native.Nat.{ℕ, zero, suc, _+_, _-_, _*_, _≤_, _<_}
 use native.Mathlib.Omega.{arith}
 use native.Mathlib.Nat.{le-antisymm}
 use lib.Dec.{eqb, ltb}
@@ -11,14 +11,14 @@ use lib.ListN.{length, length-append}
 use borrow.Author.Tests.{ltb-true, ltb-false, lt-ltb, le-ltb, eqb-true, eqb-false, eq-eqb, ne-eqb, not-false}
 use Rattle.card.specs.Command.{statusOf}
 use Rattle.card.specs.declared.command.Status.{Status}
-use Rattle.card.specs.declared.command.Status.the-variants.{Done, More, Other}
-use Rattle.session.specs.Tables.{statusCause, emptyCause, fullCause, ends, hasStep2, capacity, answersMost, isResponse, dataOf, statusBytes, ruleCause, joinedCause}
+use Rattle.card.specs.declared.command.Status.the-variants.{Done, More, Again, Other}
+use Rattle.session.specs.Tables.{statusCause, emptyCause, fullCause, ends, hasStep2, capacity, answersMost, NextCommand, isResponse, isAgain, dataOf, statusBytes, ruleCause, joinedCause}
 use Rattle.session.specs.Ranges.{causeInRange}
 use Rattle.session.specs.Condition.{commandConditions, answerConditions}
 use Rattle.session.specs.Reading.{Opening, Arguments, Progress, Reading, begins, atStep, nextCommand, commandRefused, sending, answerRefused, stopped, continued, step1End, step2End, goodEnd, judged, appended, causeBy, answerTaken, verdictRefused, verdictTaken, refusedBy, read, takes, answersIn, answers}
 use Rattle.common.proofs.TestLaws.{clash, or-left, or-right, either}
 use Rattle.common.proofs.ConditionLaws.{none-fit}
-use Rattle.session.proofs.RuleLaws.{rule-in-range, rule-fits, joined-in-range}
+use Rattle.session.proofs.RuleLaws.{rule-in-range, rule-fits, rule-again, joined-in-range}
 
 -- a cause that did arise ends the reading
 arose-ends : (k : ℕ) → causeInRange k ≡ true → eqb k 0 ≡ false → ends k ≡ true
@@ -26,13 +26,13 @@ arose-ends k p q = rw q at p
 
 -- ---- how many answers may still be taken
 
--- what the answers taken in a step have used up: the first may come without data, every later one after which more data is asked for brings a byte, and the last may
--- end the reading
+-- what the answers taken in a step have used up: the first may come without data, every later one after which more data is asked for brings a byte, a 6C may come
+-- before each, and the last may end the reading
 abbrev asked : Progress → ℕ
 asked c = cond (isResponse (c .next)) (length (c .joined) + 1) 0
 
 abbrev used : Progress → ℕ
-used c = asked c + cond (ends (c .cause)) 1 0
+used c = 2 * asked c + cond (isAgain (c .next)) 1 0 + cond (ends (c .cause)) 1 0
 
 -- how many may still be taken in step k, at step s with u used up
 unfoldable left : ℕ → ℕ → ℕ → ℕ → ℕ
@@ -131,13 +131,16 @@ sending-none r room h e =
 asked-most : (mode : ℕ) (c : Progress) → Countable mode c → asked c ≤ capacity mode (c .step) + 1
 asked-most mode c h = let l = h .small in either (λ (n : ℕ). n ≤ capacity mode (c .step) + 1) (isResponse (c .next)) (omega arith) (omega arith)
 
+one-most : (b : Bool) → cond b 1 0 ≤ 1
+one-most b = either (λ (n : ℕ). n ≤ 1) b (omega arith) (omega arith)
+
 -- an answer that is appended and after which more data is asked for: it is the first of its step, or it brings a byte
-rule-brings : (second : ℕ) (response : Bool) (n total most : ℕ) → ruleCause (More second) response n total most ≡ 0
-    → (cond response (total + 1) 0 < total + n + 1) × (total + n ≤ most)
+rule-brings : (second : ℕ) (command : NextCommand) (n total most : ℕ) → ruleCause (More second) command n total most ≡ 0
+    → (cond (isResponse command) (total + 1) 0 < total + n + 1) × (total + n ≤ most)
 unfolding ruleCause
-rule-brings second response n total most e =
-    let f = none-fit ((statusCause, false) ∷ (emptyCause, eqb n 0 && response) ∷ (fullCause, ltb most (total + n)) ∷ []) refl e in
-    (go (eqb n 0) response refl (f .1 .0), ltb-false most (total + n) (f .1 .1 .0))
+rule-brings second command n total most e =
+    let f = none-fit ((statusCause, false) ∷ (emptyCause, eqb n 0 && isResponse command) ∷ (fullCause, ltb most (total + n)) ∷ []) refl e in
+    (go (eqb n 0) (isResponse command) refl (f .1 .0), ltb-false most (total + n) (f .1 .1 .0))
   where
     go : (x y : Bool) → eqb n 0 ≡ x → x && y ≡ false → cond y (total + 1) 0 < total + n + 1
     go x false p q = omega arith
@@ -158,27 +161,45 @@ module _ (r : Reading) (h : Countable (r .opening .mode) (r .progress)) (below :
   stops joined k a b l m p q =
       let counts : Countable (r .opening .mode) (stopped (r .progress) joined k a b) = record { low = h .low; small = m; sent = λ z. clash z } in
       let most = asked-most (r .opening .mode) (stopped (r .progress) joined k a b) counts in
+      let one = one-most (isAgain (r .progress .next)) in
       let grows = asked-grows joined l in
       let e = arose-ends k p q in
       record {
         counts = counts;
-        falls = λ n. left-falls (r .opening .mode) n _ _ _ _ (Onward.same refl (rw (no-cause, e) (omega (arith, grows))) (rw e (omega (arith, most))));
+        falls = λ n. left-falls (r .opening .mode) n _ _ _ _ (Onward.same refl (rw (no-cause, e) (omega (arith, grows))) (rw e (omega (arith, most, one))));
       }
 
   moves : (s : ℕ) → r .progress .step < s → s ≤ 3 → Spends (r .opening .mode) true (r .progress) (atStep s)
   moves s l m =
       let most = asked-most (r .opening .mode) (r .progress) h in
+      let one = one-most (isAgain (r .progress .next)) in
       record {
         counts = record { low = m; small = omega arith; sent = λ z. clash z };
         falls = λ n. left-falls (r .opening .mode) n _ _ _ _ (Onward.later l (rw no-cause (omega arith)));
       }
 
+  -- after 61
   continues : (joined : List ℕ) (second : ℕ) → asked (r .progress) < length joined + 1 → length joined ≤ capacity (r .opening .mode) (r .progress .step)
-      → Spends (r .opening .mode) true (r .progress) (continued (r .progress) joined second)
+      → Spends (r .opening .mode) true (r .progress) (continued (r .progress) joined (NextCommand.getResponse second))
   continues joined second l m =
+      let one = one-most (isAgain (r .progress .next)) in
       record {
         counts = record { low = h .low; small = m; sent = λ z. clash z };
-        falls = λ n. left-falls (r .opening .mode) n _ _ _ _ (Onward.same refl (rw no-cause (omega arith)) (omega arith));
+        falls = λ n. left-falls (r .opening .mode) n _ _ _ _ (Onward.same refl (rw no-cause (omega (arith, one))) (omega arith));
+      }
+
+  -- after 6C
+  repeats : (joined : List ℕ) (last : ℕ) → isAgain (r .progress .next) ≡ false → length (r .progress .joined) ≤ length joined
+      → length joined ≤ capacity (r .opening .mode) (r .progress .step)
+      → Spends (r .opening .mode) true (r .progress) (continued (r .progress) joined (NextCommand.again (r .progress .next) last))
+  repeats joined last e l m =
+      let after = continued (r .progress) joined (NextCommand.again (r .progress .next) last) in
+      let counts : Countable (r .opening .mode) after = record { low = h .low; small = m; sent = λ z. clash z } in
+      let most = asked-most (r .opening .mode) after counts in
+      let grows = asked-grows joined l in
+      record {
+        counts = counts;
+        falls = λ n. left-falls (r .opening .mode) n _ _ _ _ (Onward.same refl (rw (no-cause, e) (omega (arith, grows))) (omega (arith, most)));
       }
 
   choose : (q p : Reading) (b : Bool) → (b ≡ true → Spends (r .opening .mode) true (r .progress) (q .progress)) → (b ≡ false → Spends (r .opening .mode) true (r .progress) (p .progress))
@@ -205,14 +226,19 @@ module _ (r : Reading) (h : Countable (r .opening .mode) (r .progress)) (below :
       → Spends (r .opening .mode) true (r .progress) (judged r (r .progress .joined ++ bytes) cancelled .progress)
   joins status bytes cancelled e =
       let n = length-append (r .progress .joined) bytes in
-      let f = rule-fits status (isResponse (r .progress .next)) (length bytes) (length (r .progress .joined)) (capacity (r .opening .mode) (r .progress .step)) e in
+      let f = rule-fits status (r .progress .next) (length bytes) (length (r .progress .joined)) (capacity (r .opening .mode) (r .progress .step)) e in
       judges (r .progress .joined ++ bytes) cancelled (omega (arith, n)) (omega (arith, n, f))
 
   appends : (status : Status) (bytes cancelled : List ℕ) → causeBy (r .progress) (capacity (r .opening .mode) (r .progress .step)) status bytes ≡ 0
       → Spends (r .opening .mode) true (r .progress) (appended status r (r .progress .joined ++ bytes) cancelled .progress)
   appends (More second) bytes cancelled e =
-      let f = rule-brings second (isResponse (r .progress .next)) (length bytes) (length (r .progress .joined)) (capacity (r .opening .mode) (r .progress .step)) e in
+      let f = rule-brings second (r .progress .next) (length bytes) (length (r .progress .joined)) (capacity (r .opening .mode) (r .progress .step)) e in
       continues _ second (rw length-append (f .0)) (rw length-append (f .1))
+  appends (Again last) bytes cancelled e =
+      let n = length-append (r .progress .joined) bytes in
+      let once = rule-again last (r .progress .next) (length bytes) (length (r .progress .joined)) (capacity (r .opening .mode) (r .progress .step)) e in
+      let f = rule-fits (Again last) (r .progress .next) (length bytes) (length (r .progress .joined)) (capacity (r .opening .mode) (r .progress .step)) e in
+      repeats _ last (once .0) (omega (arith, n)) (omega (arith, n, f))
   appends Done bytes cancelled e = joins Done bytes cancelled e
   appends Other bytes cancelled e = joins Other bytes cancelled e
 
@@ -221,7 +247,7 @@ module _ (r : Reading) (h : Countable (r .opening .mode) (r .progress)) (below :
   answers-one bytes status cancelled =
       let k = causeBy (r .progress) (capacity (r .opening .mode) (r .progress .step)) (statusOf status) bytes in
       choose _ _ (eqb k 0) (λ e. appends (statusOf status) bytes cancelled (eqb-true k 0 e))
-      (λ e. stops (r .progress .joined) k _ _ (omega arith) (h .small) (rule-in-range (statusOf status) (isResponse (r .progress .next)) (length bytes) (length (r .progress .joined)) (capacity (r .opening .mode) (r .progress .step))) e)
+      (λ e. stops (r .progress .joined) k _ _ (omega arith) (h .small) (rule-in-range (statusOf status) (r .progress .next) (length bytes) (length (r .progress .joined)) (capacity (r .opening .mode) (r .progress .step))) e)
 
 -- an answer is taken only where a command is outstanding
 taken-sent : (r : Reading) (size n : ℕ) → answerRefused r size n ≡ 0 → r .progress .outstanding ≡ true
@@ -255,6 +281,7 @@ judged-stays r joined cancelled =
 
 appended-stays : (status : Status) (r : Reading) (joined cancelled : List ℕ) → Stays r (appended status r joined cancelled)
 appended-stays (More second) r joined cancelled = refl
+appended-stays (Again last) r joined cancelled = refl
 appended-stays Done r joined cancelled = judged-stays r joined cancelled
 appended-stays Other r joined cancelled = judged-stays r joined cancelled
 

@@ -36,8 +36,8 @@ pub stamp-long : 1 < stampSize
 unfolding stampSize
 stamp-long = omega arith
 
--- the ceiling: 4,098 answers in a step, 12,294 in all
-pub answers-figures : (mode step : ℕ) → (answersMost mode step ≡ 4098) × (answersMost mode 0 + answersMost mode 1 + answersMost mode 2 ≡ 12294)
+-- the ceiling: 8,196 answers in a step, 24,588 in all
+pub answers-figures : (mode step : ℕ) → (answersMost mode step ≡ 8196) × (answersMost mode 0 + answersMost mode 1 + answersMost mode 2 ≡ 24588)
 unfolding capacity
 answers-figures mode step = (refl, refl)
 

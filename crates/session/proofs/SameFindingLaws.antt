@@ -11,7 +11,7 @@ use lib.ListN.{length, length-append}
 use lib.Seq.{set-comm}
 use Rattle.common.specs.Lists.{all, sameBytes}
 use Rattle.card.specs.Command.{statusOf}
-use Rattle.session.specs.Tables.{goodKind, capacity, isResponse, ruleCause, joinedCause}
+use Rattle.session.specs.Tables.{goodKind, capacity, NextCommand, isResponse, ruleCause, joinedCause}
 use Rattle.session.specs.Reading.{Reading, withProgress, sending, continued, goodEnd, judged, answerTaken, verdictTaken}
 use Rattle.session.specs.Finding.{finding}
 use Rattle.common.proofs.TestLaws.{by-test}
@@ -25,7 +25,7 @@ Alike q r = finding q ≡ finding r
 
 -- the reading once data was appended, GET RESPONSE was next and was sent
 abbrev sent-on : Reading → List ℕ → ℕ → Reading
-sent-on r joined second = withProgress r (sending (continued (r .progress) joined second))
+sent-on r joined second = withProgress r (sending (continued (r .progress) joined (NextCommand.getResponse second)))
 
 -- what the judging then gives is what it would have given at once
 judged-alike : (r : Reading) (old joined cancelled : List ℕ) (second : ℕ) → Alike (judged (sent-on r old second) joined cancelled) (judged r joined cancelled)
@@ -43,7 +43,7 @@ done-judged r bytes cancelled h = rw (le-ltb (capacity (r .opening .mode) (r .pr
 
 -- one of 61 that has room, and is not an empty one to GET RESPONSE, is appended
 more-continued : (r : Reading) (bytes cancelled : List ℕ) (second : ℕ) → length (r .progress .joined) + length bytes ≤ capacity (r .opening .mode) (r .progress .step) → eqb (length bytes) 0 && isResponse (r .progress .next) ≡ false
-    → answerTaken r bytes (0x61 ∷ second ∷ []) cancelled ≡ withProgress r (continued (r .progress) (r .progress .joined ++ bytes) second)
+    → answerTaken r bytes (0x61 ∷ second ∷ []) cancelled ≡ withProgress r (continued (r .progress) (r .progress .joined ++ bytes) (NextCommand.getResponse second))
 unfolding answerTaken ruleCause statusOf sameBytes all
 more-continued r bytes cancelled second h e = rw (e, le-ltb (capacity (r .opening .mode) (r .progress .step)) (length (r .progress .joined) + length bytes) h)
 

@@ -12,15 +12,15 @@ use Rattle.card.specs.Fascn.{fascnBytes}
 use Rattle.card.specs.Command.{aidMost, statusOf}
 use Rattle.card.specs.declared.object.Part.{Part}
 use Rattle.card.specs.declared.command.Status.{Status}
-use Rattle.card.specs.declared.command.Status.the-variants.{Done, More, Other}
-use Rattle.session.specs.Tables.{checks, checkServed, withOutcome, neededOutcomes, verdictOutcome, causeOf, standingOf, kindAt, stepAfter, baseOf, capacity, stepOfTag, NextCommand, commandBytes, isResponse, dataOf, statusBytes, ruleCause, statusShown, fascnRead, expiryRead, judgedOutcomes, joinedCause, headOf, stampLayout}
+use Rattle.card.specs.declared.command.Status.the-variants.{Done, More, Again, Other}
+use Rattle.session.specs.Tables.{checks, checkServed, withOutcome, neededOutcomes, verdictOutcome, causeOf, standingOf, kindAt, stepAfter, baseOf, capacity, stepOfTag, NextCommand, commandBytes, dataOf, statusBytes, ruleCause, statusShown, fascnRead, expiryRead, judgedOutcomes, joinedCause, headOf, stampLayout}
 use Rattle.session.specs.Condition.{openConditions, commandConditions, answerConditions, verdictConditions, fieldRefused, stampConditions}
 use Rattle.session.specs.Ranges.{outOfRange}
 use Rattle.session.specs.declared.state.SessionProgress.{SessionProgress}
 use Rattle.session.specs.declared.state.Card.{Card}
 use Rattle.session.specs.declared.state.Session.{Session}
 use Rattle.session.specs.declared.state.Next.{Next}
-use Rattle.session.specs.declared.state.Next.the-variants.{Initial, GetResponse}
+use Rattle.session.specs.declared.state.Next.the-variants.{Initial, GetResponse, InitialAgain, GetResponseAgain}
 use Rattle.session.specs.declared.state.Reply.{Reply}
 use Rattle.session.specs.declared.state.Reply.the-variants as replies
 use Rattle.session.specs.declared.state.Answered.{Answered}
@@ -90,14 +90,29 @@ openOf mode date aid = cond (eqb (openRefusal mode date aid) 0) (0, opened mode 
 
 -- ---- command
 
--- The command that is next, as the code has it.
+-- The command that is next, as the code has it. Of GET RESPONSE sent again the byte that was replaced is not kept: no call shows it.
 abbrev pub nextOf : Next → NextCommand
 nextOf Initial = NextCommand.ofStep
 nextOf (GetResponse second) = NextCommand.getResponse second
+nextOf (InitialAgain last) = NextCommand.again NextCommand.ofStep last
+nextOf (GetResponseAgain last) = NextCommand.again (NextCommand.getResponse last) last
 
--- The bytes of the session's next command.
+-- The same command, to be sent again with another last byte.
+abbrev pub sentAgain : Next → ℕ → Next
+sentAgain Initial last = InitialAgain last
+sentAgain (GetResponse second) last = GetResponseAgain last
+sentAgain (InitialAgain former) last = InitialAgain last
+sentAgain (GetResponseAgain former) last = GetResponseAgain last
+
+-- The bytes of a command in a session, of the step's own, and of the next one.
+abbrev pub bytesIn : Session → NextCommand → List ℕ
+bytesIn s command = commandBytes (s .opening .mode) (take (s .opening .«aid_len») (s .opening .aid)) (s .progress .step) command
+
+unfoldable pub initialIn : Session → List ℕ
+initialIn s = bytesIn s NextCommand.ofStep
+
 unfoldable pub commandIn : Session → List ℕ
-commandIn s = commandBytes (s .opening .mode) (take (s .opening .«aid_len») (s .opening .aid)) (s .progress .step) (nextOf (s .progress .next))
+commandIn s = bytesIn s (nextOf (s .progress .next))
 
 unfoldable pub commandRefusal : Session → ℕ → ℕ
 commandRefusal s room =
@@ -126,10 +141,9 @@ abbrev pub progressStopped : SessionProgress → ℕ → ℕ → ℕ → ℕ →
 progressStopped p filled cause sw1 sw2 =
     record { step = p .step; filled = filled; outstanding = false; next = p .next; cause = cause; sw1 = sw1; sw2 = sw2 }
 
--- More data is to be asked for, n bytes being appended.
-abbrev pub progressContinued : SessionProgress → ℕ → ℕ → SessionProgress
-progressContinued p n second =
-    record { step = p .step; filled = p .filled + n; outstanding = false; next = GetResponse second; cause = 0; sw1 = 0; sw2 = 0 }
+-- The step goes on with another command, n bytes being appended.
+abbrev pub progressContinued : SessionProgress → ℕ → Next → SessionProgress
+progressContinued p n next = record { step = p .step; filled = p .filled + n; outstanding = false; next = next; cause = 0; sw1 = 0; sw2 = 0 }
 
 -- Step 1's good end sets checks 3 and 4; FASC-N, expiry and the places of the fields are kept.
 abbrev pub step1EndSession : Session → List ℕ → List ℕ → Session
@@ -168,7 +182,7 @@ judgedSession s joined cancelled =
 -- The cause of rules 1 to 3.
 abbrev pub causeIn : Session → Status → ℕ → ℕ
 causeIn s status n =
-    ruleCause status (isResponse (nextOf (s .progress .next))) n (s .progress .filled) (capacity (s .opening .mode) (s .progress .step))
+    ruleCause status (nextOf (s .progress .next)) n (s .progress .filled) (capacity (s .opening .mode) (s .progress .step))
 
 -- Where the data of the next answer is stored in the object buffer, and the step's joined data once n bytes are.
 abbrev pub placeOf : SessionProgress → ℕ
@@ -179,7 +193,8 @@ joinedIn p object n = take (p .filled + n) (drop (baseOf (p .step)) object)
 
 -- By the status of an answer whose data, n bytes, is appended.
 abbrev pub appendedSession : Status → Session → List ℕ → ℕ → List ℕ → Session
-appendedSession (More second) s joined n cancelled = withSessionProgress s (progressContinued (s .progress) n second)
+appendedSession (More second) s joined n cancelled = withSessionProgress s (progressContinued (s .progress) n (GetResponse second))
+appendedSession (Again last) s joined n cancelled = withSessionProgress s (progressContinued (s .progress) n (sentAgain (s .progress .next) last))
 appendedSession Done s joined n cancelled = judgedSession s joined cancelled
 appendedSession Other s joined n cancelled = judgedSession s joined cancelled
 

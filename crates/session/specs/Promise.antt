@@ -149,7 +149,7 @@ pub record Promise (h : History) : Type 0 where
   pub apart : (u : History) → (stampOf (finding (readingOf h)) ≡ stampOf (finding (readingOf u))) ↔ (finding (readingOf h) ≡ finding (readingOf u))
   -- f: granted, said of the calls
   pub granted : (standing (finding (readingOf h)) ≡ standsGranted) ↔ Granted (readingOf h)
-  -- g: at most 4,098 answers are taken in a step, and 12,294 in all
+  -- g: at most 8,196 answers are taken in a step, and 24,588 in all
   pub answers-step : (step : ℕ) → answersIn step (begins (h .opening)) (argumentsIn h) ≤ answersMost (h .opening .mode) step
   pub answers-all : let most = answersMost (h .opening .mode) in answers (begins (h .opening)) (argumentsIn h) ≤ most 0 + most 1 + most 2
 

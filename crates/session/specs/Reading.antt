@@ -12,8 +12,8 @@ use Rattle.card.specs.Fascn.{fascnBytes}
 use Rattle.card.specs.Object.{fieldValue}
 use Rattle.card.specs.Command.{statusOf}
 use Rattle.card.specs.declared.command.Status.{Status}
-use Rattle.card.specs.declared.command.Status.the-variants.{Done, More, Other}
-use Rattle.session.specs.Tables.{checkServed, neededOutcomes, withOutcome, verdictOutcome, judgedOutcomes, kindAt, stepAfter, objectSize, capacity, stepOfTag, NextCommand, commandBytes, isResponse, dataOf, statusBytes, ruleCause, statusShown, fascnRead, joinedCause}
+use Rattle.card.specs.declared.command.Status.the-variants.{Done, More, Again, Other}
+use Rattle.session.specs.Tables.{checkServed, neededOutcomes, withOutcome, verdictOutcome, judgedOutcomes, kindAt, stepAfter, objectSize, capacity, stepOfTag, NextCommand, commandBytes, dataOf, statusBytes, ruleCause, statusShown, fascnRead, joinedCause}
 use Rattle.session.specs.Condition.{commandConditions, answerConditions, verdictConditions, stampConditions}
 
 -- ---- what the reading is fed
@@ -105,10 +105,9 @@ abbrev pub stopped : Progress → List ℕ → ℕ → ℕ → ℕ → Progress
 stopped p joined cause sw1 sw2 =
     record { step = p .step; cause = cause; sw1 = sw1; sw2 = sw2; joined = joined; outstanding = false; next = p .next }
 
--- "After 61 GET RESPONSE is next."
-abbrev pub continued : Progress → List ℕ → ℕ → Progress
-continued p joined second =
-    record { step = p .step; cause = 0; sw1 = 0; sw2 = 0; joined = joined; outstanding = false; next = NextCommand.getResponse second }
+-- The step goes on with another command.
+abbrev pub continued : Progress → List ℕ → NextCommand → Progress
+continued p joined next = record { step = p .step; cause = 0; sw1 = 0; sw2 = 0; joined = joined; outstanding = false; next = next }
 
 -- Step 1's good end sets checks 3 and 4; what was read is kept, with the list.
 abbrev pub step1End : Reading → List ℕ → List ℕ → Reading
@@ -143,16 +142,18 @@ judged r joined cancelled =
     let k = joinedCause (r .opening .mode) (r .progress .step) joined in
     cond (eqb k 0) (goodEnd r joined cancelled) (withProgress r (stopped (r .progress) joined k 0 0))
 
--- Rule 4: "the data is appended. After 61 GET RESPONSE is next. After 90 00 the step's joined data is judged". Any other status word gave cause 16 by rule 1, and
--- does not come here.
+-- Rule 4: "the data is appended. After 61 GET RESPONSE is next. After 90 00 the step's joined data is judged". An answer 6C "without data now makes the next command the same
+-- one with its last byte replaced by the second status byte" (document 02, request 1): it has nothing to append. Any other status word gave cause 16 by rule 1, and does
+-- not come here.
 abbrev pub appended : Status → Reading → List ℕ → List ℕ → Reading
-appended (More second) r joined cancelled = withProgress r (continued (r .progress) joined second)
+appended (More second) r joined cancelled = withProgress r (continued (r .progress) joined (NextCommand.getResponse second))
+appended (Again last) r joined cancelled = withProgress r (continued (r .progress) joined (NextCommand.again (r .progress .next) last))
 appended Done r joined cancelled = judged r joined cancelled
 appended Other r joined cancelled = judged r joined cancelled
 
 -- Rules 1 to 3 on the step's joined data.
 abbrev pub causeBy : Progress → ℕ → Status → List ℕ → ℕ
-causeBy p most status bytes = ruleCause status (isResponse (p .next)) (length bytes) (length (p .joined)) most
+causeBy p most status bytes = ruleCause status (p .next) (length bytes) (length (p .joined)) most
 
 -- The effect of an answer, "first rule that fits".
 unfoldable pub answerTaken : Reading → List ℕ → List ℕ → List ℕ → Reading

@@ -3,7 +3,7 @@
 -- Assumes nothing.
 use mathlib.Core.Bool.{Bool, true, false, cond, not, _&&_, _||_}
 use mathlib.Core.List.{List, [], _∷_, _++_}
-use Prim.Native.Nat.{ℕ, suc, _+_, _-_, _/_, _%_}
+use Prim.Native.Nat.{ℕ, suc, _+_, _-_, _*_, _/_, _%_}
 use lib.Dec.{eqb, ltb, leb}
 use lib.ListN.{length, getD, set, take, drop}
 use Rattle.common.specs.Lists.{listOf, all, sameBytes}
@@ -12,11 +12,11 @@ use Rattle.card.specs.Fascn.{fascnBytes, unpackOf, keyOf}
 use Rattle.card.specs.Template.{templateOf}
 use Rattle.card.specs.Object.{fascnTag, guidTag, expiryTag, signatureTag, fingersTag, malformedObject, objectOf, fieldValue}
 use Rattle.card.specs.Date.{illFormedDate, dateOf}
-use Rattle.card.specs.Command.{selectBytes, getDataBytes, getResponseBytes}
+use Rattle.card.specs.Command.{selectBytes, getDataBytes, getResponseBytes, withLast}
 use Rattle.card.specs.declared.object.Kind.{Kind}
 use Rattle.card.specs.declared.object.Kind.the-variants.{Signed, Unsigned, Fingers}
 use Rattle.card.specs.declared.command.Status.{Status}
-use Rattle.card.specs.declared.command.Status.the-variants.{Done, More, Other}
+use Rattle.card.specs.declared.command.Status.the-variants.{Done, More, Again, Other}
 
 -- ---- modes and checks
 
@@ -179,9 +179,10 @@ baseOf step = cond (eqb step 2) 4096 0
 unfoldable pub capacity : ℕ → ℕ → ℕ
 capacity mode step = 4096
 
--- "At most 4,098 answers are taken for each step": one without data, then one a byte, and one that ends the reading.
+-- "the stated limit becomes 8,196 for a step" (document 02, request 1): one without data, then one a byte, and one that ends the reading, which are document 01's 4,098;
+-- and a 6C before each.
 abbrev pub answersMost : ℕ → ℕ → ℕ
-answersMost mode step = capacity mode step + 2
+answersMost mode step = 2 * (capacity mode step + 2)
 
 -- Step k has ended well where a later step is reached; step 2 only in a mode that has it.
 abbrev pub stepRead : ℕ → ℕ → ℕ → Bool
@@ -200,20 +201,30 @@ stepOfTag tag = cond (isIn tag step1Tags) 1 (cond (isIn tag step2Tags) 2 0)
 
 -- ---- commands and answers
 
--- The command that is next: that of the step, SELECT or GET DATA, or GET RESPONSE with the second status byte of the answer just taken.
+-- The command that is next: that of the step, SELECT or GET DATA; GET RESPONSE with the second status byte of the answer just taken; or, after a 6C, "the same one with its
+-- last byte replaced by the second status byte".
 pub data NextCommand : Type 0 where
   ofStep : NextCommand
   getResponse : (second : ℕ) → NextCommand
+  again : (command : NextCommand) (last : ℕ) → NextCommand
 
 -- Its bytes, in steps 0 to 2; at step 3 there is nothing to send (refusal 5).
 unfoldable pub commandBytes : ℕ → List ℕ → ℕ → NextCommand → List ℕ
 commandBytes mode aid step NextCommand.ofStep = cond (eqb step 0) (selectBytes aid) (getDataBytes (kindAt mode step))
 commandBytes mode aid step (NextCommand.getResponse second) = getResponseBytes second
+commandBytes mode aid step (NextCommand.again command last) = withLast (commandBytes mode aid step command) last
 
--- The command is GET RESPONSE.
+-- The command is GET RESPONSE, with whatever last byte.
 abbrev pub isResponse : NextCommand → Bool
 isResponse NextCommand.ofStep = false
 isResponse (NextCommand.getResponse second) = true
+isResponse (NextCommand.again command last) = isResponse command
+
+-- The command is one that is sent again: the answer taken before was a 6C (`after-answer`, proofs/CorrectionLaws.antt).
+abbrev pub isAgain : NextCommand → Bool
+isAgain NextCommand.ofStep = false
+isAgain (NextCommand.getResponse second) = false
+isAgain (NextCommand.again command last) = true
 
 -- "An answer is data, then two status bytes"; "answer under 2 or over 258 bytes" is refused.
 abbrev pub statusSize : ℕ
@@ -228,22 +239,27 @@ dataOf answer = take (length answer - statusSize) answer
 abbrev pub statusBytes : List ℕ → List ℕ
 statusBytes answer = drop (length answer - statusSize) answer
 
--- "Status neither 90 00 nor 61 with any second byte"; 61 with any second byte.
-abbrev pub isOther : Status → Bool
-isOther Other = true
-isOther (More second) = false
-isOther Done = false
+-- Rule 1: "Status neither 90 00 nor 61 with any second byte"; and of 6C, by the command that it answers and the bytes of its data, "A second 6C straight after the first is
+-- cause 16, and so is a 6C with data" (document 02, request 1).
+abbrev pub wrongStatus : Status → NextCommand → ℕ → Bool
+wrongStatus Done command n = false
+wrongStatus (More second) command n = false
+wrongStatus (Again last) command n = isAgain command || not (eqb n 0)
+wrongStatus Other command n = true
 
+-- 61 with any second byte.
 abbrev pub isMore : Status → Bool
-isMore Other = false
-isMore (More second) = true
 isMore Done = false
+isMore (More second) = true
+isMore (Again last) = false
+isMore Other = false
 
 -- Rules 1 to 3, the first that fits: the cause that an answer with n bytes of data gives in a step that has `total` bytes and may have `most`, by its
--- status and whether the command was GET RESPONSE; 0 where the data is appended.
-unfoldable pub ruleCause : Status → Bool → ℕ → ℕ → ℕ → ℕ
-ruleCause status response n total most =
-    refusalOf ((statusCause, isOther status) ∷ (emptyCause, (isMore status && eqb n 0) && response) ∷ (fullCause, ltb most (total + n)) ∷ [])
+-- status and the command that it answers; 0 where the data is appended.
+unfoldable pub ruleCause : Status → NextCommand → ℕ → ℕ → ℕ → ℕ
+ruleCause status command n total most =
+    refusalOf
+    ((statusCause, wrongStatus status command n) ∷ (emptyCause, (isMore status && eqb n 0) && isResponse command) ∷ (fullCause, ltb most (total + n)) ∷ [])
 
 -- A byte of the status word that is kept and stamped: "00 00 unless cause 16".
 abbrev pub statusShown : ℕ → ℕ → ℕ

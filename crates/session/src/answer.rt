@@ -5,6 +5,7 @@ use crate::figures::FULL_CAUSE;
 use crate::figures::OBJECT;
 use crate::figures::STATUS;
 use crate::figures::STATUS_CAUSE;
+use crate::progress;
 use crate::state::Answered;
 use crate::state::Next;
 use crate::state::Reply;
@@ -16,7 +17,7 @@ use common::slice;
 ghost use mathlib.Core.Path.{_≡_};
 ghost use Prim.Native.Nat.{_+_, _≤_, _<_, _^_};
 ghost use lib.ListN.{length};
-ghost use Rattle.session.specs.Tables.{capacity, objectSize, isResponse, isOther, isMore, statusSize, answerMost, ruleCause};
+ghost use Rattle.session.specs.Tables.{capacity, objectSize, isResponse, isAgain, wrongStatus, isMore, statusSize, answerMost, ruleCause};
 ghost use Rattle.session.specs.Operation.{replyNumber, given, nextOf, answerRefusal, causeIn, appendedSession, answerTakenSession, answerTakenBuffer, answerOf, answerBuffer};
 ghost use Rattle.session.specs.Promise.{AnswerPromise};
 
@@ -26,15 +27,30 @@ fn is_response(next: Next) -> bool
     match next {
         Next::Initial => false,
         Next::GetResponse(_) => true,
+        Next::InitialAgain(_) => false,
+        Next::GetResponseAgain(_) => true,
     }
 }
 
-fn is_other(status: Status) -> bool
-    ensures { λ r. ⌜ r ≡ isOther status ⌝ }
+fn is_again(next: Next) -> bool
+    ensures { λ r. ⌜ r ≡ isAgain (nextOf next) ⌝ }
+{
+    match next {
+        Next::Initial => false,
+        Next::GetResponse(_) => false,
+        Next::InitialAgain(_) => true,
+        Next::GetResponseAgain(_) => true,
+    }
+}
+
+// Rule 1, by the status, the command that is answered and the bytes of data.
+fn wrong_status(status: Status, next: Next, n: usize) -> bool
+    ensures { λ r. ⌜ r ≡ wrongStatus status (nextOf next) n ⌝ }
 {
     match status {
         Status::Done => false,
         Status::More(_) => false,
+        Status::Again(_) => is_again(next) | (n != 0),
         Status::Other => true,
     }
 }
@@ -45,18 +61,20 @@ fn is_more(status: Status) -> bool
     match status {
         Status::Done => false,
         Status::More(_) => true,
+        Status::Again(_) => false,
         Status::Other => false,
     }
 }
 
 // Rules 1 to 3, the first that fits; 0 where the data is appended.
-fn rule_cause(status: Status, response: bool, n: usize, total: usize, most: usize) -> u8
+fn rule_cause(status: Status, next: Next, n: usize, total: usize, most: usize) -> u8
     requires { ⌜ total + n < 2 ^ 64 ⌝ }
-    ensures { λ r. ⌜ r ≡ ruleCause status response n total most ⌝ }
+    ensures { λ r. ⌜ r ≡ ruleCause status (nextOf next) n total most ⌝ }
 {
-    if is_other(status) {
+    if wrong_status(status, next, n) {
         return STATUS_CAUSE;
     }
+    let response = is_response(next);
     if (is_more(status) & (n == 0)) & response {
         return EMPTY_CAUSE;
     }
@@ -94,21 +112,26 @@ impl Session {
         let next = p.next;
         rule_cause(
             status,
-            is_response(next),
+            next,
             n,
             p.filled,
             tables::capacity(self.opening.mode, p.step),
         )
     }
 
-    // After 61 GET RESPONSE is next; after 90 00 the step's joined data is judged.
+    // After 61 GET RESPONSE is next; after 6C the same command again; after 90 00 the step's joined data is judged.
     fn appended(self, status: Status, joined: &[u8], n: usize, cancelled: &[u64]) -> Session
         requires { ⌜ self .progress .filled + n < 2 ^ 64 ⌝ }
         ensures { λ r. ⌜ r ≡ appendedSession status self (now (joined .entry)) n (now (cancelled .entry)) ⌝ }
     {
         match status {
             Status::Done => self.judge(joined, cancelled),
-            Status::More(second) => self.continued(n, second),
+            Status::More(second) => self.continued(n, Next::GetResponse(second)),
+            Status::Again(last) => {
+                let p = self.progress;
+                let next = p.next;
+                self.continued(n, progress::sent_again(next, last))
+            }
             Status::Other => self.judge(joined, cancelled),
         }
     }

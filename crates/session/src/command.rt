@@ -7,16 +7,15 @@ use crate::state::Session;
 use crate::tables;
 use card::command;
 use card::command::CommandAnswer;
+use card::command::FIRST_LAST;
 ghost use mathlib.Core.Path.{_≡_};
 ghost use mathlib.Core.Bool.{true, cond};
-ghost use mathlib.Core.List.{[], _∷_};
 ghost use lib.Dec.{eqb};
 ghost use lib.ListN.{length};
-ghost use Rattle.common.specs.Refusal.{refusalOf};
 ghost use Rattle.card.specs.Command as card-command;
 ghost use Rattle.session.specs.Condition.{nothingToSend};
 ghost use Rattle.session.specs.Ranges.{inRange};
-ghost use Rattle.session.specs.Operation.{commandGiven, commandIn, progressSending, withSessionProgress, commandOf, commandBuffer};
+ghost use Rattle.session.specs.Operation.{commandGiven, initialIn, commandIn, progressSending, withSessionProgress, commandOf, commandBuffer};
 ghost use Rattle.session.specs.Promise.{CommandPromise};
 
 impl Session {
@@ -27,25 +26,34 @@ impl Session {
         ((self.progress.step == 3) | tables::ends(self.progress.cause)) | self.progress.outstanding
     }
 
+    // The step's command, SELECT or GET DATA, with a last byte, written to the front of out where it fits.
+    fn write_initial(self, last: u8, out: &mut [u8]) -> CommandAnswer
+        requires { ⌜ inRange self ≡ true ⌝ }
+        ensures { λ r. ⌜ (card-command.commandAnswer r, now (out .exit)) ≡ card-command.commandInto (card-command.withLast (initialIn self) last) (now (out .entry)) ⌝ }
+    {
+        let opening = self.opening;
+        let step = self.progress.step;
+        if step == 0 {
+            let aid = opening.aid;
+            let n = opening.aid_len;
+            arrays::sized_aid(aid);
+            return command::select(&aid[..n], last, out);
+        }
+        command::get_data(tables::kind_at(opening.mode, step), last, out)
+    }
+
     // The next command, written to the front of out where it fits.
     fn write_command(self, out: &mut [u8]) -> CommandAnswer
         requires { ⌜ inRange self ≡ true ⌝ }
-        ensures { λ r. ⌜ (card-command.commandAnswer r, now (out .exit)) ≡ card-command.commandWritten (refusalOf ((6, card-command.tooShort (now (out .entry)) (commandIn self)) ∷ [])) (commandIn self) (now (out .entry)) ⌝ }
+        ensures { λ r. ⌜ (card-command.commandAnswer r, now (out .exit)) ≡ card-command.commandInto (commandIn self) (now (out .entry)) ⌝ }
     {
-        let opening = self.opening;
         let progress = self.progress;
         let next = progress.next;
         match next {
-            Next::Initial => {
-                if progress.step == 0 {
-                    let aid = opening.aid;
-                    let n = opening.aid_len;
-                    arrays::sized_aid(aid);
-                    return command::select(&aid[..n], out);
-                }
-                command::get_data(tables::kind_at(opening.mode, progress.step), out)
-            }
+            Next::Initial => self.write_initial(FIRST_LAST, out),
             Next::GetResponse(second) => command::get_response(second, out),
+            Next::InitialAgain(last) => self.write_initial(last, out),
+            Next::GetResponseAgain(last) => command::get_response(last, out),
         }
     }
 

@@ -1,10 +1,10 @@
-// A session's progress: a step begins, GET RESPONSE is next, a cause ends the reading.
+// A session's progress: a step begins, it goes on with another command, a cause ends the reading.
 use crate::state::Next;
 use crate::state::Session;
 use crate::state::SessionProgress;
 ghost use mathlib.Core.Path.{_≡_};
 ghost use Prim.Native.Nat.{_+_, _<_, _^_};
-ghost use Rattle.session.specs.Operation.{withSessionProgress, progressAtStep, progressStopped, progressContinued};
+ghost use Rattle.session.specs.Operation.{sentAgain, withSessionProgress, progressAtStep, progressStopped, progressContinued};
 
 // A step begins.
 pub(crate) fn at_step(step: u8) -> SessionProgress
@@ -18,6 +18,18 @@ pub(crate) fn at_step(step: u8) -> SessionProgress
         cause: 0,
         sw1: 0,
         sw2: 0,
+    }
+}
+
+// The same command, to be sent again with another last byte.
+pub(crate) fn sent_again(next: Next, last: u8) -> Next
+    ensures { λ r. ⌜ r ≡ sentAgain next last ⌝ }
+{
+    match next {
+        Next::Initial => Next::InitialAgain(last),
+        Next::GetResponse(_) => Next::GetResponseAgain(last),
+        Next::InitialAgain(_) => Next::InitialAgain(last),
+        Next::GetResponseAgain(_) => Next::GetResponseAgain(last),
     }
 }
 
@@ -35,17 +47,17 @@ impl Session {
         s
     }
 
-    // More data is to be asked for, n bytes being appended.
-    pub(crate) fn continued(self, n: usize, second: u8) -> Session
+    // The step goes on with another command, n bytes being appended.
+    pub(crate) fn continued(self, n: usize, next: Next) -> Session
         requires { ⌜ self .progress .filled + n < 2 ^ 64 ⌝ }
-        ensures { λ r. ⌜ r ≡ withSessionProgress self (progressContinued (self .progress) n second) ⌝ }
+        ensures { λ r. ⌜ r ≡ withSessionProgress self (progressContinued (self .progress) n next) ⌝ }
     {
         let p = self.progress;
         let progress = SessionProgress {
             step: p.step,
             filled: p.filled + n,
             outstanding: false,
-            next: Next::GetResponse(second),
+            next,
             cause: 0,
             sw1: 0,
             sw2: 0,
