@@ -12,8 +12,8 @@ use Rattle.common.specs.Refusal.{refusalOf}
 use Rattle.card.specs.Date.{realDate}
 use Rattle.card.specs.Command.{selectBytes, getDataBytes, aidRefused, statusOf}
 use Rattle.common.proofs.ListsLaws.{length-over}
-use Rattle.card.proofs.CommandLaws.{select-length, get-data-length, get-response-length, aid-most}
-use Rattle.session.specs.Tables.{modeInRange, statusSize, answerMost, kindAt, objectSize, capacity, NextCommand, commandBytes, dataOf, statusBytes, isResponse, ends}
+use Rattle.card.proofs.CommandLaws.{select-length, get-data-length, get-response-length, length-last, aid-most}
+use Rattle.session.specs.Tables.{modeInRange, statusSize, answerMost, kindAt, objectSize, capacity, NextCommand, commandBytes, dataOf, statusBytes, ends}
 use Rattle.session.specs.Condition.{openConditions, nothingToSend, answerConditions, verdictConditions}
 use Rattle.session.specs.Ranges.{outOfRange}
 use Rattle.session.specs.Reading.{Arguments, Reading, begins, withProgress, sending, nextCommand, commandRefused, answerRefused, read, reading}
@@ -45,6 +45,7 @@ command-most mode aid step NextCommand.ofStep e = by (eqb step 0)
     by true = omega (arith, select-length aid, aid-most aid e)
     by false = omega (arith, get-data-length (kindAt mode step))
 command-most mode aid step (NextCommand.getResponse second) e = omega (arith, get-response-length second)
+command-most mode aid step (NextCommand.again command last) e = rw length-last (command-most mode aid step command e)
 
 next-most : (r : Reading) (m : List ℕ) → Invariant r m → length (nextCommand r) ≤ commandRoom
 next-most r m i = command-most (r .opening .mode) (r .opening .aid) (r .progress .step) (r .progress .next) (not-true (aidRefused (r .opening .aid)) (and-right (modeInRange (r .opening .mode) && realDate (r .opening .date)) (not (aidRefused (r .opening .aid))) (i .opening)))
@@ -119,7 +120,7 @@ answer-size s object bytes =
     inside : Fitting s (length object) (length bytes) → causeIn s (statusOf (statusBytes bytes)) (length (dataOf bytes)) ≡ 0 → placeOf (s .progress) + length (dataOf bytes) ≤ length object
     inside f k =
         let most = capacity (s .opening .mode) (s .progress .step) in
-        let room = rule-fits (statusOf (statusBytes bytes)) (isResponse (nextOf (s .progress .next))) (length (dataOf bytes)) (s .progress .filled) most k in
+        let room = rule-fits (statusOf (statusBytes bytes)) (nextOf (s .progress .next)) (length (dataOf bytes)) (s .progress .filled) most k in
         omega (arith, room, base-fits (s .opening .mode) (s .progress .step), f .whole)
 
 pub line-size : (g : Gate) (line : GateLine) → length (gateAfter g line .object) ≡ length (g .object)

@@ -15,13 +15,13 @@ use Rattle.card.specs.declared.command.Status.the-variants.{Done, More, Again, 
 use Rattle.session.specs.Tables.{statusCause, emptyCause, fullCause, ends, hasStep2, capacity, answersMost, NextCommand, isResponse, isAgain, dataOf, statusBytes, ruleCause, joinedCause}
 use Rattle.session.specs.Ranges.{causeInRange}
 use Rattle.session.specs.Condition.{commandConditions, answerConditions}
-use Rattle.session.specs.Reading.{Opening, Arguments, Progress, Reading, begins, atStep, nextCommand, commandRefused, sending, answerRefused, stopped, continued, step1End, step2End, goodEnd, judged, appended, causeBy, answerTaken, verdictRefused, verdictTaken, refusedBy, read, takes, answersIn, answers}
+use Rattle.session.specs.Reading.{Opening, Arguments, Progress, Reading, begins, atStep, nextCommand, commandRefused, sending, answerRefused, stopped, continued, step1End, step2End, goodEnd, judged, appended, causeBy, answerTaken, verdictRefused, verdictTaken, refusedBy, read, reading, takes, answersIn, answers}
 use Rattle.common.proofs.TestLaws.{clash, or-left, or-right, either}
 use Rattle.common.proofs.ConditionLaws.{none-fit}
 use Rattle.session.proofs.RuleLaws.{rule-in-range, rule-fits, rule-again, joined-in-range}
 
 -- a cause that did arise ends the reading
-arose-ends : (k : ℕ) → causeInRange k ≡ true → eqb k 0 ≡ false → ends k ≡ true
+pub arose-ends : (k : ℕ) → causeInRange k ≡ true → eqb k 0 ≡ false → ends k ≡ true
 arose-ends k p q = rw q at p
 
 -- ---- how many answers may still be taken
@@ -90,10 +90,10 @@ abbrev budget : ℕ → ℕ → Progress → ℕ
 budget mode k c = left mode k (c .step) (used c)
 
 -- what the count asks of the progress of a reading
-record Countable (mode : ℕ) (c : Progress) : Type 0 where
-  low : c .step ≤ 3
-  small : length (c .joined) ≤ capacity mode (c .step)
-  sent : c .outstanding ≡ true → (c .step < 3) × (ends (c .cause) ≡ false)
+pub record Countable (mode : ℕ) (c : Progress) : Type 0 where
+  pub low : c .step ≤ 3
+  pub small : length (c .joined) ≤ capacity mode (c .step)
+  pub sent : c .outstanding ≡ true → (c .step < 3) × (ends (c .cause) ≡ false)
 
 -- a call that takes an answer or none, before and after it
 record Spends (mode : ℕ) (b : Bool) (c d : Progress) : Type 0 where
@@ -250,7 +250,7 @@ module _ (r : Reading) (h : Countable (r .opening .mode) (r .progress)) (below :
       (λ e. stops (r .progress .joined) k _ _ (omega arith) (h .small) (rule-in-range (statusOf status) (r .progress .next) (length bytes) (length (r .progress .joined)) (capacity (r .opening .mode) (r .progress .step))) e)
 
 -- an answer is taken only where a command is outstanding
-taken-sent : (r : Reading) (size n : ℕ) → answerRefused r size n ≡ 0 → r .progress .outstanding ≡ true
+pub taken-sent : (r : Reading) (size n : ℕ) → answerRefused r size n ≡ 0 → r .progress .outstanding ≡ true
 unfolding answerRefused
 taken-sent r size n e = not-false (r .progress .outstanding) (none-fit (answerConditions (r .progress .outstanding) size n) refl e .0)
 
@@ -337,6 +337,14 @@ by-steps (t ∷ ts) r h =
 
 begins-countable : (o : Opening) → Countable (o .mode) (begins o .progress)
 begins-countable o = record { low = omega arith; small = omega arith; sent = λ z. clash z }
+
+list-countable : (ts : List Arguments) (r : Reading) → Countable (r .opening .mode) (r .progress) → let q = reading r ts in Countable (q .opening .mode) (q .progress)
+list-countable [] r h = h
+list-countable (t ∷ ts) r h = list-countable ts (read r t) (countable-on r t (spends r t h .counts))
+
+-- what the count asks holds after every list of calls
+pub countable-all : (o : Opening) (ts : List Arguments) → let r = reading (begins o) ts in Countable (r .opening .mode) (r .progress)
+countable-all o ts = list-countable ts (begins o) (begins-countable o)
 
 pub answers-step : (step : ℕ) (o : Opening) (ts : List Arguments) → answersIn step (begins o) ts ≤ answersMost (o .mode) step
 answers-step step o ts =

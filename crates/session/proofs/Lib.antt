@@ -47,6 +47,8 @@ pub mod StampLaws
 pub mod GrantLaws
 -- CountLaws: how many answers are taken
 pub mod CountLaws
+-- CorrectionLaws: what a 6C does, by the answer taken before
+pub mod CorrectionLaws
 -- RunLaws: every call, and every list of calls
 pub mod RunLaws
 -- PromiseLaws: demand 3

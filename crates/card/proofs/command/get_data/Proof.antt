@@ -1,5 +1,5 @@
 -- `card::command::get_data` meets its contract: each store lengthens the front. Assumes nothing.
-use mathlib.Core.Path.{refl, sym, _∙_}
+use mathlib.Core.Path.{refl, _∙_}
 use native.Mathlib.Omega.{arith}
 use borrow.Author.Needs.{needs}
 use Rattle.card.specs.Command.{withLast, getDataBytes, getDataOf}
