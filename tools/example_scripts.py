@@ -521,6 +521,226 @@ script("cause_16_before_18", "4,096 bytes, then more with status 6A 82: the firs
        [ok(opening(1))] + select() + pieces(full_object, 256, end_empty=True)[:-1] + [ok(answer("FE00", "6A82"))],
        unread(1, REJECTED, 16, 1, "6A82"))
 
+# --------------------------------------------------- cards that correct the length
+group("Cards that correct the length: 6C")
+
+SAME_COMMAND = "makes the next command the same one with its last byte replaced by the second status byte"
+TAKEN = "It counts as taken"
+SECOND_6C = "A second 6C straight after the first is cause 16"
+WITH_DATA = "and so is a 6C with data"
+NO_DATA = "Such an answer without data"
+first, rest = small[:40], small[40:]                     # 20 and 42 bytes
+GRANTED_3 = stamp(3, GRANTED, 0, 3, "222202")
+
+# Taken, each command by itself.
+script("corrected_select_granted", "6C 0F to SELECT, then the template of 15 bytes", SAME_COMMAND,
+       [ok(opening(1)), ok(answer("", "6C0F"))] + select() + whole(signed()) + yes(1, 2), GRANTED_1)
+script("corrected_get_data_granted", "6C 5D to GET DATA, then the signed object of 93 bytes", SAME_COMMAND,
+       [ok(opening(1))] + select() + [ok(answer("", "6C5D"))] + whole(signed()) + yes(1, 2), GRANTED_1)
+script("corrected_get_data_mode_2_granted", "6C 29 to GET DATA in mode 2, then the unsigned object of 41 bytes", SAME_COMMAND,
+       [ok(opening(2))] + select() + [ok(answer("", "6C29"))] + whole(unsigned()) + yes(3), stamp(2, GRANTED, 0, 3, "002220"))
+script("corrected_fingers_granted", "6C 36 to the second GET DATA, mode 3, then the fingers of 54 bytes", SAME_COMMAND,
+       [ok(opening(3))] + select() + whole(signed()) + [ok(answer("", "6C36"))] + whole(fingers()) + yes(1, 2, 4), GRANTED_3)
+script("corrected_get_response_granted", "20 bytes of the object with 61 2A, 6C 2A to GET RESPONSE, then the other 42", SAME_COMMAND,
+       [ok(opening(1))] + select() + [ok(answer(first, "612A")), ok(answer("", "6C2A")), ok(answer(rest))] + yes(1, 2), GRANTED_1)
+script("corrected_get_response_step_0_granted", "61 0F to SELECT, 6C 0F to GET RESPONSE, then the template", SAME_COMMAND,
+       [ok(opening(1)), ok(answer("", "610F")), ok(answer("", "6C0F"))] + select() + whole(signed()) + yes(1, 2), GRANTED_1)
+script("corrected_get_response_step_2_granted", "61 36 to the second GET DATA, 6C 36 to GET RESPONSE, then the fingers", SAME_COMMAND,
+       [ok(opening(3))] + select() + whole(signed()) + [ok(answer("", "6136")), ok(answer("", "6C36"))] + whole(fingers()) + yes(1, 2, 4),
+       GRANTED_3)
+script("corrected_6c00_select_granted", "6C 00 to SELECT: the second byte is as any other", SAME_COMMAND,
+       [ok(opening(1)), ok(answer("", "6C00"))] + select() + whole(signed()) + yes(1, 2), GRANTED_1)
+script("corrected_6c00_get_data_granted", "6C 00 to GET DATA, then an object of 665 bytes in pieces of 256", SAME_COMMAND,
+       [ok(opening(1))] + select() + [ok(answer("", "6C00"))] + pieces(large, 256) + yes(1, 2), GRANTED_1)
+script("corrected_6c00_get_response_granted", "61 00 to GET DATA, then 6C 00 to GET RESPONSE", SAME_COMMAND,
+       [ok(opening(1))] + select() + [ok(answer("", "6100")), ok(answer("", "6C00"))] + whole(signed()) + yes(1, 2), GRANTED_1)
+script("corrected_another_length_granted", "6C 01 and 6C FF, and data of another length than they say", SAME_COMMAND,
+       [ok(opening(1)), ok(answer("", "6C01"))] + select() + [ok(answer("", "6CFF"))] + whole(signed()) + yes(1, 2), GRANTED_1)
+
+# Taken again, after any other answer.
+script("corrected_every_step_granted", "6C to SELECT and to both GET DATA commands: 90 00 stands between", SECOND_6C,
+       [ok(opening(3)), ok(answer("", "6C0F"))] + select() + [ok(answer("", "6C5D"))] + whole(signed())
+       + [ok(answer("", "6C36"))] + whole(fingers()) + yes(1, 2, 4), GRANTED_3)
+script("corrected_last_and_first_granted", "6C to the last GET RESPONSE of a step, its good end, and 6C at once to the next step's command, mode 4",
+       SECOND_6C,
+       [ok(opening(4)), ok(answer(TEMPLATE[:10], "610A")), ok(answer("", "6C0A")), ok(answer(TEMPLATE[10:])), ok(answer("", "6C3E")),
+        ok(answer(first, "612A")), ok(answer("", "6C2A")), ok(answer(rest)), ok(answer("", "6C36"))] + whole(fingers()) + yes(1, 2, 3, 4),
+       stamp(4, GRANTED, 0, 3, "222222"))
+script("corrected_twice_61_with_data_granted", "6C to GET DATA, 61 with data, 6C to GET RESPONSE, then the rest", SECOND_6C,
+       [ok(opening(1))] + select() + [ok(answer("", "6C3E")), ok(answer(first, "612A")), ok(answer("", "6C2A")), ok(answer(rest))]
+       + yes(1, 2), GRANTED_1)
+script("corrected_twice_61_without_data_granted", "6C to SELECT, 61 without data, 6C to GET RESPONSE, then the template", SECOND_6C,
+       [ok(opening(1)), ok(answer("", "6C0F")), ok(answer("", "610F")), ok(answer("", "6C0F"))] + select() + whole(signed())
+       + yes(1, 2), GRANTED_1)
+before_each = [line for piece in pieces(TEMPLATE, 1) + pieces(small, 1) for line in (ok(answer("", "6C01")), piece)]
+assert len(before_each) == 2 * (15 + 62)
+script("corrected_before_every_byte_granted", "template and object one byte an answer, 6C 01 before each of them", SECOND_6C,
+       [ok(opening(1))] + before_each + yes(1, 2), GRANTED_1)
+
+# A second one straight after the first.
+script("cause_16_6c_twice_select", "6C 0F, then 6C 10 to SELECT: the status word is the second one's", SECOND_6C,
+       [ok(opening(1)), ok(answer("", "6C0F")), ok(answer("", "6C10")), refused(5, answer(TEMPLATE))],
+       unread(1, REJECTED, 16, 0, "6C10"))
+script("cause_16_6c_twice_get_data", "6C 5D, then 6C 00 to GET DATA", SECOND_6C,
+       [ok(opening(1))] + select() + [ok(answer("", "6C5D")), ok(answer("", "6C00")), refused(5, answer(signed()))],
+       unread(1, REJECTED, 16, 1, "6C00"))
+script("cause_16_6c_twice_fingers", "6C 00, then 6C 36 to the second GET DATA, mode 4: FASC-N and expiry stay", SECOND_6C,
+       [ok(opening(4))] + select() + whole(signed()) + [ok(answer("", "6C00")), ok(answer("", "6C36")), refused(5, answer(fingers()))],
+       stamp(4, REJECTED, 16, 2, "112211", status="6C36"))
+script("cause_16_6c_twice_get_response", "61 with data, then 6C 2A and 6C 2B to GET RESPONSE", SECOND_6C,
+       [ok(opening(1))] + select() + [ok(answer(first, "612A")), ok(answer("", "6C2A")), ok(answer("", "6C2B")), refused(5, answer(rest))],
+       unread(1, REJECTED, 16, 1, "6C2B"))
+script("cause_16_6c_twice_the_same", "6C 0F twice to SELECT, mode 2", SECOND_6C,
+       [ok(opening(2)), ok(answer("", "6C0F")), ok(answer("", "6C0F")), refused(9, verdict(3, 1))], unread(2, REJECTED, 16, 0, "6C0F"))
+script("cause_16_6c_twice_later", "6C 3E, 61 with data, then 6C 2A and 6C 2B: the third 6C stands straight after the second", SECOND_6C,
+       [ok(opening(1))] + select()
+       + [ok(answer("", "6C3E")), ok(answer(first, "612A")), ok(answer("", "6C2A")), ok(answer("", "6C2B")), refused(5, answer(rest))],
+       unread(1, REJECTED, 16, 1, "6C2B"))
+script("cause_16_6c_then_6700", "6C 0F to SELECT, then 67 00", R16,
+       [ok(opening(1)), ok(answer("", "6C0F")), ok(answer("", "6700")), refused(5, answer(TEMPLATE))], unread(1, REJECTED, 16, 0, "6700"))
+
+# With data, and status words that are not quite 6C.
+script("cause_16_6c_with_data_select", "a whole good template with 6C 0F", WITH_DATA,
+       [ok(opening(1)), ok(answer(TEMPLATE, "6C0F")), refused(5, answer(TEMPLATE))], unread(1, REJECTED, 16, 0, "6C0F"))
+script("cause_16_6c_with_one_byte", "one byte of data with 6C 5D to GET DATA", WITH_DATA,
+       [ok(opening(1))] + select() + [ok(answer("53", "6C5D")), refused(5, answer(signed()))], unread(1, REJECTED, 16, 1, "6C5D"))
+script("cause_16_6c_with_data_after_61", "61 with data, then the other 42 bytes with 6C 2A to GET RESPONSE", WITH_DATA,
+       [ok(opening(1))] + select() + [ok(answer(first, "612A")), ok(answer(rest, "6C2A")), refused(5, answer("", "9000"))],
+       unread(1, REJECTED, 16, 1, "6C2A"))
+script("cause_16_6c_with_data_after_empty_61", "61 without data, then the template with 6C 00 to GET RESPONSE", WITH_DATA,
+       [ok(opening(1)), ok(answer("", "610F")), ok(answer(TEMPLATE, "6C00")), refused(5, answer("", "9000"))],
+       unread(1, REJECTED, 16, 0, "6C00"))
+script("cause_16_6c_with_data_after_6c", "6C 0F, then the template with 6C 10", WITH_DATA,
+       [ok(opening(1)), ok(answer("", "6C0F")), ok(answer(TEMPLATE, "6C10"))], unread(1, REJECTED, 16, 0, "6C10"))
+script("cause_16_6c_with_data_before_18", "4,096 bytes, then more with 6C 01: the first rule that fits", "Its effect, first rule that fits",
+       [ok(opening(1))] + select() + pieces(full_object, 256, end_empty=True)[:-1] + [ok(answer("FE", "6C01"))],
+       unread(1, REJECTED, 16, 1, "6C01"))
+script("cause_16_status_6b0f", "6B 0F to SELECT", R16, [ok(opening(1)), ok(answer("", "6B0F"))], unread(1, REJECTED, 16, 0, "6B0F"))
+script("cause_16_status_6d00", "6D 00 to SELECT", R16, [ok(opening(1)), ok(answer("", "6D00"))], unread(1, REJECTED, 16, 0, "6D00"))
+script("cause_16_status_0f6c", "the bytes of 6C 0F in another order", R16,
+       [ok(opening(1)), ok(answer("", "0F6C"))], unread(1, REJECTED, 16, 0, "0F6C"))
+script("status_61_6c_then_6c_granted", "61 6C to GET DATA is a 61; then 6C 5D to GET RESPONSE", "61 with any second byte",
+       [ok(opening(1))] + select() + [ok(answer("", "616C")), ok(answer("", "6C5D"))] + whole(signed()) + yes(1, 2), GRANTED_1)
+
+# Rule 2: which command it was.
+script("corrected_select_empty_61_granted", "6C 0F to SELECT, then 61 0F without data: the command was SELECT", R17,
+       [ok(opening(1)), ok(answer("", "6C0F")), ok(answer("", "610F"))] + select() + whole(signed()) + yes(1, 2), GRANTED_1)
+script("corrected_get_data_empty_61_granted", "6C 5D to GET DATA, then 61 5D without data: the command was GET DATA", R17,
+       [ok(opening(1))] + select() + [ok(answer("", "6C5D")), ok(answer("", "615D"))] + whole(signed()) + yes(1, 2), GRANTED_1)
+script("corrected_fingers_empty_61_granted", "step 1 ends with a corrected GET RESPONSE; 6C and 61 without data to the second GET DATA", R17,
+       [ok(opening(3))] + select() + [ok(answer("", "615D")), ok(answer("", "6C5D"))] + whole(signed())
+       + [ok(answer("", "6C36")), ok(answer("", "6136"))] + whole(fingers()) + yes(1, 2, 4), GRANTED_3)
+script("cause_17_6c_get_response", "61 without data to GET DATA, 6C 5D to GET RESPONSE, 61 without data to the corrected one", R17,
+       [ok(opening(1))] + select() + [ok(answer("", "615D")), ok(answer("", "6C5D")), ok(answer("", "615D")), refused(5, answer(signed()))],
+       unread(1, REJECTED, 17, 1))
+script("cause_17_6c_get_response_after_data", "the same after 61 with data", R17,
+       [ok(opening(1))] + select() + [ok(answer(first, "612A")), ok(answer("", "6C2A")), ok(answer("", "612A")), refused(5, answer(rest))],
+       unread(1, REJECTED, 17, 1))
+script("cause_17_6c_get_response_fingers", "the same in step 2, mode 4", R17,
+       [ok(opening(4))] + select() + whole(signed()) + [ok(answer("", "6136")), ok(answer("", "6C36")), ok(answer("", "6136"))],
+       stamp(4, REJECTED, 17, 2, "112211"))
+script("cause_17_6c_select", "6C 0F to SELECT, then 61 without data twice: the second was to GET RESPONSE", R17,
+       [ok(opening(1)), ok(answer("", "6C0F")), ok(answer("", "610F")), ok(answer("", "610F")), refused(5, answer(TEMPLATE))],
+       unread(1, REJECTED, 17, 0))
+script("cause_17_6c_get_data", "the same with GET DATA", R17,
+       [ok(opening(1))] + select() + [ok(answer("", "6C5D")), ok(answer("", "615D")), ok(answer("", "615D")), refused(5, answer(signed()))],
+       unread(1, REJECTED, 17, 1))
+script("cause_17_6c_both_times", "6C, 61 without data, 6C, 61 without data, all in step 0", R17,
+       [ok(opening(1)), ok(answer("", "6C0F")), ok(answer("", "610F")), ok(answer("", "6C0F")), ok(answer("", "610F")),
+        refused(5, answer("", "6C0F"))], unread(1, REJECTED, 17, 0))
+
+# Other lines between.
+COUNT_NOTHING = "they count for nothing"
+OTHER_LINES = "for other or longer lines and a 1,025th card, `(bad)`"
+REPLACES = "An accepted open replaces the session; a refused one doesn't"
+LENT = "3 if the key stands anywhere in the list lent with that answer"
+script("cause_16_6c_short_answer_between", "6C 0F, an answer of one byte, 6C 10: the refused answer does not stand between", COUNT_NOTHING,
+       [ok(opening(1)), ok(answer("", "6C0F")), refused(8, answer("", "61")), ok(answer("", "6C10")), refused(5, answer(TEMPLATE))],
+       unread(1, REJECTED, 16, 0, "6C10"))
+script("cause_16_6c_long_answer_between", "the same with an answer of 259 bytes, to GET DATA", COUNT_NOTHING,
+       [ok(opening(1))] + select() + [ok(answer("", "6C5D")), refused(8, answer(some_bytes(257), "6101")), ok(answer("", "6C5E"))],
+       unread(1, REJECTED, 16, 1, "6C5E"))
+script("cause_16_6c_bad_line_between", "the same with bad lines", OTHER_LINES,
+       [ok(opening(1)), ok(answer("", "6C0F")), bad("(answer 610f)"), bad(""), ok(answer("", "6C10"))], unread(1, REJECTED, 16, 0, "6C10"))
+script("cause_16_6c_refused_open_between", "the same with openings refused with 1, 2 and 3", REPLACES,
+       [ok(opening(1)), ok(answer("", "6C0F")), refused(1, opening(9)), refused(2, opening(1, "20230229")), refused(3, opening(1, aid="A0000003")),
+        ok(answer("", "6C10"))], unread(1, REJECTED, 16, 0, "6C10"))
+script("cause_16_6c_card_line_between", "the same with a card line and a verdict refused with 9", COUNT_NOTHING,
+       [ok(opening(1)), ok(answer("", "6C0F")), ok(SAMPLE_CARD), refused(9, verdict(1, 1)), ok(answer("", "6C10"))],
+       unread(1, REJECTED, 16, 0, "6C10"))
+script("refused_8_then_6c_granted", "the byte 6C alone, and 259 bytes that end in 6C 0F: neither counts as the first 6C", COUNT_NOTHING,
+       [ok(opening(1)), refused(8, answer("", "6C")), refused(8, answer(some_bytes(257), "6C0F")), ok(answer("", "6C0F"))] + select()
+       + whole(signed()) + yes(1, 2), GRANTED_1)
+script("refused_8_after_6c_select_granted", "6C 0F to SELECT, an answer of one byte, 61 without data: the command outstanding is still SELECT", COUNT_NOTHING,
+       [ok(opening(1)), ok(answer("", "6C0F")), refused(8, answer("", "6C")), ok(answer("", "610F"))] + select() + whole(signed()) + yes(1, 2),
+       GRANTED_1)
+script("cause_17_6c_short_answer_between", "6C 5D to GET RESPONSE, an answer of one byte, 61 without data: the command outstanding is still GET RESPONSE",
+       COUNT_NOTHING,
+       [ok(opening(1))] + select() + [ok(answer("", "615D")), ok(answer("", "6C5D")), refused(8, answer("", "6C")), ok(answer("", "615D"))],
+       unread(1, REJECTED, 17, 1))
+script("second_open_between_6c_granted", "6C 0F, an accepted opening, 6C 0F: the new session begins anew", REPLACES,
+       [ok(opening(1)), ok(answer("", "6C0F")), ok(opening(1)), ok(answer("", "6C0F"))] + select() + whole(signed()) + yes(1, 2), GRANTED_1)
+script("second_open_6c_get_response_granted", "6C to GET RESPONSE, an accepted opening, 6C and 61 without data: the command is SELECT again", REPLACES,
+       [ok(opening(1)), ok(answer("", "610F")), ok(answer("", "6C0F")), ok(opening(1)), ok(answer("", "6C0F")), ok(answer("", "610F"))] + select()
+       + whole(signed()) + yes(1, 2), GRANTED_1)
+script("cause_4_card_line_after_6c", "6C 5D to GET DATA, the card line, then the object", LENT,
+       [ok(opening(1))] + select() + [ok(answer("", "6C5D")), ok(SAMPLE_CARD)] + whole(signed()) + yes(1, 2), stamp(1, REJECTED, 4, 3, "222300"))
+
+# Nothing is appended, and nothing dropped.
+script("corrected_amid_pieces_granted", "each step in two pieces with a 6C between them, mode 4", NO_DATA,
+       [ok(opening(4)), ok(answer(TEMPLATE[:2], "610E")), ok(answer("", "6C0E")), ok(answer(TEMPLATE[2:])),
+        ok(answer(small[:2], "613D")), ok(answer("", "6C3D")), ok(answer(small[2:])),
+        ok(answer(fingers()[:40], "6122")), ok(answer("", "6C22")), ok(answer(fingers()[40:]))] + yes(1, 2, 3, 4),
+       stamp(4, GRANTED, 0, 3, "222222"))
+script("corrected_empty_9000_last_granted", "the whole object with 61, 6C to GET RESPONSE, then 90 00 alone", NO_DATA,
+       [ok(opening(1))] + select() + [ok(answer(small, "6100")), ok(answer("", "6C00")), ok(answer("", "9000"))] + yes(1, 2), GRANTED_1)
+script("corrected_full_4096_template_granted", "a good template of exactly 4,096 bytes, 6C 00, then 90 00 alone", NO_DATA,
+       [ok(opening(1))] + pieces(full_template, 256, end_empty=True)[:-1] + [ok(answer("", "6C00")), ok(answer("", "9000"))] + whole(signed())
+       + yes(1, 2), GRANTED_1)
+script("cause_20_6c_after_4096", "an object of 4,096 bytes, 6C 00, then 90 00 alone: they are judged", NO_DATA,
+       [ok(opening(1))] + select() + pieces(full_object, 256, end_empty=True)[:-1] + [ok(answer("", "6C00")), ok(answer("", "9000"))],
+       unread(1, REJECTED, 20, 1))
+script("cause_18_6c_after_4096", "4,096 bytes, 6C 01, then one byte more", R18,
+       [ok(opening(1))] + select() + pieces(full_object, 256, end_empty=True)[:-1] + [ok(answer("", "6C01")), ok(answer("FE", "9000"))],
+       unread(1, REJECTED, 18, 1))
+script("cause_19_6c_then_9000", "6C 0F to SELECT, then 90 00 alone", NO_DATA,
+       [ok(opening(1)), ok(answer("", "6C0F")), ok(answer("", "9000"))], unread(1, REJECTED, 19, 0))
+script("cause_20_6c_then_9000", "6C 5D to GET DATA, then 90 00 alone", NO_DATA,
+       [ok(opening(1))] + select() + [ok(answer("", "6C5D")), ok(answer("", "9000"))], unread(1, REJECTED, 20, 1))
+
+# No command outstanding.
+script("refused_4_6c_no_session", "6C 0F before any opening, then 6C 0F after it", COUNT_NOTHING,
+       [refused(4, answer("", "6C0F")), ok(opening(1)), ok(answer("", "6C0F"))] + select(), unread(1, OPEN, 0, 1))
+script("refused_5_6c_all_read", "6C after all is read, without data and with data", "5 no command outstanding",
+       [ok(opening(1))] + select() + whole(signed()) + [refused(5, answer("", "6C5D"))] * 2 + [refused(5, answer("53", "6C5D"))] + yes(1, 2),
+       GRANTED_1)
+script("refused_5_6c_after_a_cause", "6C after cause 16: the status word stays", "A cause of 16 to 22 ends the reading at that step for good",
+       [ok(opening(1)), ok(answer("", "6A82")), refused(5, answer("", "6C0F")), refused(5, answer(TEMPLATE))],
+       unread(1, REJECTED, 16, 0, "6A82"))
+script("refused_5_third_6c", "6C 0F, 6C 10, 6C 11: the second ends the reading, the third is refused", "A cause of 16 to 22 ends the reading at that step for good",
+       [ok(opening(1)), ok(answer("", "6C0F")), ok(answer("", "6C10")), refused(5, answer("", "6C11"))], unread(1, REJECTED, 16, 0, "6C10"))
+
+# Left open.
+script("open_6c_to_select", "6C 0F to SELECT, and no further answer", TAKEN,
+       [ok(opening(1)), ok(answer("", "6C0F"))], unread(1, OPEN, 0, 0))
+script("open_6c_to_get_data", "6C 5D to GET DATA, and no further answer", TAKEN,
+       [ok(opening(1))] + select() + [ok(answer("", "6C5D")), refused(9, verdict(1, 1))], unread(1, OPEN, 0, 1))
+script("open_6c_to_get_response", "the object but for its last 42 bytes, then 6C 2A", TAKEN,
+       [ok(opening(1))] + select() + [ok(answer(first, "612A")), ok(answer("", "6C2A"))], unread(1, OPEN, 0, 1))
+script("open_6c_to_fingers", "6C 36 to the second GET DATA, mode 3, and no further answer", TAKEN,
+       [ok(opening(3))] + select() + whole(signed()) + [ok(answer("", "6C36"))], stamp(3, OPEN, 0, 2, "112201"))
+script("cause_3_6c_to_fingers", "the same with an expired card: rejected by check 3, and no status word", "00 00 unless cause 16",
+       [ok(opening(3))] + select() + whole(signed(expiry="20240714")) + [ok(answer("", "6C36"))],
+       stamp(3, REJECTED, 3, 2, "113201", expiry="20240714"))
+
+# As many answers as a step can take.
+plain = [answer("", "6101")] + [answer(full_template[at:at + 2], "6101") for at in range(0, 2 * 4096, 2)] + [answer("", "6101")]
+most = [ok(line) for one in plain for line in (answer("", "6C01"), one)]
+assert len(plain) == 4098 and len(most) == 8196
+script("cause_17_most_answers_of_a_step", "61 without data, 4,096 bytes one by one, 61 without data, and 6C before each: 8,196 answers, and one more is refused",
+       "the stated limit becomes 8,196 for a step",
+       [ok(opening(1))] + most + [refused(5, answer("", "6C01"))], unread(1, REJECTED, 17, 0))
+
 # ------------------------------------------------------------- causes 19 to 22
 group("Cause 19: the template")
 
@@ -686,7 +906,6 @@ script("cause_3_before_step_2", "mode 3, expired: rejected while the fingers are
 
 group("Cancelled cards")
 
-LENT = "3 if the key stands anywhere in the list lent with that answer"
 SO_FAR = "an answer is lent the cards read so far"
 script("cause_4_cancelled", "the card line before the opening, both verdicts yes", LENT,
        [ok(SAMPLE_CARD)] + ALL_READ_1 + yes(1, 2), stamp(1, REJECTED, 4, 3, "222300"))
@@ -763,7 +982,6 @@ script("cause_5_lowest_of_two", "mode 4: kind 3 of another card and a no of kind
 # ---------------------------------------------------------------- refusals
 group("Refused lines")
 
-COUNT_NOTHING = "they count for nothing"
 script("refused_1_mode", "modes 0, 7 and 9, then a good opening", "1 mode not 1–4",
        [refused(1, opening(0)), refused(1, opening(7)), refused(1, opening(9)), refused(4, answer(TEMPLATE)), ok(opening(1))]
        + select(), unread(1, OPEN, 0, 1))
@@ -835,7 +1053,6 @@ script("refused_among_good_granted", "mode 4 with refused lines between all the 
 
 group("One opening after another")
 
-REPLACES = "An accepted open replaces the session; a refused one doesn't"
 script("second_open_replaces", "granted, then an opening in mode 3: only the new session counts", REPLACES,
        ALL_READ_1 + yes(1, 2) + [ok(opening(3, "20240716"))], unread(3, OPEN, 0, 0, date="20240716"))
 script("second_open_after_a_cause_granted", "6A 82, then a new opening with another AID and a good reading", REPLACES,
@@ -857,7 +1074,6 @@ script("refused_open_keeps_granted", "granted, then openings refused with 1, 2 a
 # --------------------------------------------------------------- bad lines
 group("Lines that are none of the four")
 
-OTHER_LINES = "for other or longer lines and a 1,025th card, `(bad)`"
 PAIRS = "HEX is one or more pairs of upper-case digits"
 ONE_DIGIT = "MODE, KIND and YES are one decimal digit, DATE eight"
 
@@ -1045,7 +1261,7 @@ def main():
         total += len(text)
         (data / name).write_bytes(text)
         stdout += name.encode("ascii") + b"\n" + printed
-    assert total < 600000
+    assert total < 800000
     # A directory can be opened but not read: no line is printed and no stamp, and standard error has a line on it.
     names.append(".")
     stdout += b".\n"
@@ -1057,9 +1273,9 @@ def main():
               "`mode`, `cause`, `step` and the numbers of checks, causes and refusals are document 01's. A name that begins with `cause_` has that cause in its stamp; one",
               "that ends in `_granted` has a stamp that says granted; one that begins with `refused_` and a number has a line refused with that number; one that begins with `bad_` has a bad line.",
               "The last name of `args` is `.`, a directory: it cannot be read, so nothing is printed for it on standard output, no stamp either, and a line on standard error says so.",
-              "The last column has the words of document 01 that decide the last line, or the reply to the line that the script is about.", ""]
+              "The last column has the words of document 01 or 02 that decide the last line, or the reply to the line that the script is about.", ""]
     for title, entries in groups:
-        readme += ["## " + title, "", "| script | what it shows | last line | words of document 01 |", "|---|---|---|---|"]
+        readme += ["## " + title, "", "| script | what it shows | last line | words of document 01 or 02 |", "|---|---|---|---|"]
         readme += ["| `%s` | %s | %s | %s |" % (name, shows, meaning(last), "\"" + quote + "\"") for name, shows, quote, _, last, _ in entries]
         readme.append("")
     (HERE / "README.md").write_text("\n".join(readme).rstrip("\n") + "\n")

@@ -1,4 +1,4 @@
-"""The gate program of document 01, in plain Python.
+"""The gate program of document 01, with request 1 of document 02, in plain Python.
 
 `run(data)` is what the program writes to standard output when its standard
 input is `data`.  The sections stand in the order of document 01.
@@ -254,6 +254,7 @@ class Session:
         self.joined = b""                   # the step's data
         self.next_command = select(aid)
         self.outstanding = None             # the command sent and not yet answered
+        self.after_6c = False               # was the answer taken last a 6C?
 
     def command(self):
         """Refusal number and the bytes of the command."""
@@ -269,7 +270,10 @@ class Session:
             return 8
         command, self.outstanding = self.outstanding, None
         data, status = answer[:-2], answer[-2:]
-        if status != b"\x90\x00" and status[0] != 0x61:
+        after_6c, self.after_6c = self.after_6c, status[0] == 0x6C
+        if status[0] == 0x6C and not data and not after_6c:
+            self.next_command = command[:-1] + status[1:]
+        elif status != b"\x90\x00" and status[0] != 0x61:
             self.reading_cause, self.status = 16, status
         elif status[0] == 0x61 and not data and command[1] == 0xC0:
             self.reading_cause = 17
