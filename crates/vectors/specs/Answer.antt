@@ -8,9 +8,9 @@ use Rattle.card.specs.declared.object.Kind.the-variants as kinds
 use Rattle.vectors.specs.Append.{noVector}
 use Rattle.vectors.specs.FascnText.{unpackText, packText}
 use Rattle.vectors.specs.ObjectText.{headerText, templateText, objectText, dateText, realText}
-use Rattle.vectors.specs.CommandText.{selectText, getDataText, getResponseText, statusText}
+use Rattle.vectors.specs.CommandText.{selectText, selectAgainText, getDataText, getResponseText, statusText}
 use Rattle.vectors.specs.declared.answer.VectorCall.{VectorCall}
-use Rattle.vectors.specs.declared.answer.VectorCall.the-variants.{Unknown, Unpack, Pack, Header, Template, Date, Real, Object, Select, GetData, GetResponse, Status}
+use Rattle.vectors.specs.declared.answer.VectorCall.the-variants.{Unknown, Unpack, Pack, Header, Template, Date, Real, Object, Select, SelectAgain, GetData, GetResponse, Status}
 
 -- ---- the names
 
@@ -44,6 +44,8 @@ callRows =
     ∷ (0x73 ∷ 0x65 ∷ 0x6C ∷ 0x65 ∷ 0x63 ∷ 0x74 ∷ [], Select 24)
     -- shortselect
     ∷ (0x73 ∷ 0x68 ∷ 0x6F ∷ 0x72 ∷ 0x74 ∷ 0x73 ∷ 0x65 ∷ 0x6C ∷ 0x65 ∷ 0x63 ∷ 0x74 ∷ [], Select 14)
+    -- selectagain
+    ∷ (0x73 ∷ 0x65 ∷ 0x6C ∷ 0x65 ∷ 0x63 ∷ 0x74 ∷ 0x61 ∷ 0x67 ∷ 0x61 ∷ 0x69 ∷ 0x6E ∷ [], SelectAgain 24)
     -- getsigned
     ∷ (0x67 ∷ 0x65 ∷ 0x74 ∷ 0x73 ∷ 0x69 ∷ 0x67 ∷ 0x6E ∷ 0x65 ∷ 0x64 ∷ [], GetData kinds.Signed 12)
     -- getunsigned
@@ -75,7 +77,8 @@ answerText Template s = templateText s
 answerText Date s = dateText s
 answerText Real s = realText s
 answerText (Object kind) s = objectText kind s
-answerText (Select room) s = selectText room s
+answerText (Select room) s = selectText 0x00 room s
+answerText (SelectAgain room) s = selectAgainText room s
 answerText (GetData kind room) s = getDataText kind room s
 answerText (GetResponse room) s = getResponseText room s
 answerText Status s = statusText s

@@ -3,12 +3,12 @@
 use mathlib.Core.Bool.{cond}
 use mathlib.Core.List.{List, [], _∷_, _++_}
 use Prim.Native.Nat.{ℕ}
-use lib.Dec.{eqb}
+use lib.Dec.{eqb, leb}
 use lib.ListN.{length, getD, take, drop, replicate}
 use Rattle.card.specs.Command.{selectOf, getDataOf, getResponseOf, statusOf}
 use Rattle.card.specs.declared.object.Kind.{Kind}
 use Rattle.card.specs.declared.command.Status.{Status}
-use Rattle.card.specs.declared.command.Status.the-variants.{Done, More, Other}
+use Rattle.card.specs.declared.command.Status.the-variants.{Done, More, Again, Other}
 use Rattle.text.specs.Hex.{hexOf}
 use Rattle.vectors.specs.Append.{numberText, refusalText, noVector}
 
@@ -42,13 +42,16 @@ spareSize = 24
 unfoldable pub spare : ℕ → List ℕ
 spare room = take room (replicate spareSize 0xFF)
 
--- SELECT of the AID s.
-unfoldable pub selectText : ℕ → List ℕ → List ℕ
-selectText room s = commandText (selectOf s (spare room))
+-- SELECT of the AID s with a last byte; and with its last byte replaced, of a line that spells that byte and then the AID.
+unfoldable pub selectText : ℕ → ℕ → List ℕ → List ℕ
+selectText last room s = commandText (selectOf s last (spare room))
 
--- GET DATA of an object; the line spells no bytes.
+unfoldable pub selectAgainText : ℕ → List ℕ → List ℕ
+selectAgainText room s = selectText (getD s 0 0) room (drop 1 s)
+
+-- GET DATA of an object; the line spells no bytes, or the last byte.
 unfoldable pub getDataText : Kind → ℕ → List ℕ → List ℕ
-getDataText k room s = cond (eqb (length s) 0) (commandText (getDataOf k (spare room))) noVector
+getDataText k room s = cond (leb (length s) 1) (commandText (getDataOf k (getD s 0 0) (spare room))) noVector
 
 -- GET RESPONSE with the one byte of s.
 unfoldable pub getResponseText : ℕ → List ℕ → List ℕ
@@ -59,9 +62,13 @@ getResponseText room s = cond (eqb (length s) 1) (commandText (getResponseOf (ge
 abbrev pub moreWord : List ℕ
 moreWord = 0x6D ∷ 0x6F ∷ 0x72 ∷ 0x65 ∷ 0x20 ∷ []
 
+abbrev pub againWord : List ℕ
+againWord = 0x61 ∷ 0x67 ∷ 0x61 ∷ 0x69 ∷ 0x6E ∷ 0x20 ∷ []
+
 unfoldable pub textOfStatus : Status → List ℕ
 textOfStatus Done = 0x64 ∷ 0x6F ∷ 0x6E ∷ 0x65 ∷ []
 textOfStatus (More second) = moreWord ++ hexOf (second ∷ [])
+textOfStatus (Again last) = againWord ++ hexOf (last ∷ [])
 textOfStatus Other = 0x6F ∷ 0x74 ∷ 0x68 ∷ 0x65 ∷ 0x72 ∷ []
 
 abbrev pub statusText : List ℕ → List ℕ

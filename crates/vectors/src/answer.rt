@@ -7,6 +7,7 @@ pub(crate) mod fascn;
 mod object;
 
 use crate::append;
+use card::command::FIRST_LAST;
 use card::object::Kind;
 use common::slice;
 ghost use mathlib.Core.Path.{_≡_};
@@ -26,6 +27,7 @@ pub(crate) enum VectorCall {
     Real,
     Object(Kind),
     Select(usize),
+    SelectAgain(usize),
     GetData(Kind, usize),
     GetResponse(usize),
     Status,
@@ -64,6 +66,7 @@ pub(crate) fn call_of(name: &[u8]) -> VectorCall
         c,
     );
     let c = row(name, b"getsigned", VectorCall::GetData(Kind::Signed, 12), c);
+    let c = row(name, b"selectagain", VectorCall::SelectAgain(24), c);
     let c = row(name, b"shortselect", VectorCall::Select(14), c);
     let c = row(name, b"select", VectorCall::Select(24), c);
     let c = row(name, b"fingers", VectorCall::Object(Kind::Fingers), c);
@@ -90,7 +93,8 @@ pub(crate) fn answer(out: &mut [u8], at: usize, call: VectorCall, s: &[u8]) -> u
         VectorCall::Date => object::add_date(out, at, s),
         VectorCall::Real => object::add_real(out, at, s),
         VectorCall::Object(kind) => object::add_object(out, at, kind, s),
-        VectorCall::Select(room) => command::add_select(out, at, room, s),
+        VectorCall::Select(room) => command::add_select(out, at, FIRST_LAST, room, s),
+        VectorCall::SelectAgain(room) => command::add_select_again(out, at, room, s),
         VectorCall::GetData(kind, room) => command::add_get_data(out, at, kind, room, s),
         VectorCall::GetResponse(room) => command::add_get_response(out, at, room, s),
         VectorCall::Status => command::add_status(out, at, s),

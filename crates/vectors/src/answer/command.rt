@@ -7,9 +7,11 @@ use card::command::Status;
 use card::object::Kind;
 use common::number;
 ghost use mathlib.Core.Path.{_≡_};
+ghost use mathlib.Core.List.{[], _∷_, _++_};
 ghost use Rattle.card.specs.Command.{commandAnswer, selectOf, getDataOf, getResponseOf};
+ghost use Rattle.text.specs.Hex.{hexOf};
 ghost use Rattle.vectors.specs.Append.{Added};
-ghost use Rattle.vectors.specs.CommandText.{writtenText, unwrittenText, commandText, selectText, getDataText, getResponseText, textOfStatus, statusText};
+ghost use Rattle.vectors.specs.CommandText.{writtenText, unwrittenText, commandText, selectText, selectAgainText, getDataText, getResponseText, statusText};
 
 // The most bytes of a buffer that a command is lent; `spareSize` in the definitions.
 const SPARE: usize = 24;
@@ -45,21 +47,21 @@ fn add_answer(out: &mut [u8], at: usize, answer: CommandAnswer, buffer: &[u8]) -
     }
 }
 
-// SELECT of the AID s, into a buffer.
-fn select_into(out: &mut [u8], at: usize, s: &[u8], buffer: &mut [u8]) -> usize
-    ensures text { λ r. ⌜ Added (now (out .entry)) at (now (out .exit)) r (commandText (selectOf (now (s .entry)) (now (buffer .entry)))) ⌝ }
-    ensures holds { λ r. ⌜ now (buffer .exit) ≡ selectOf (now (s .entry)) (now (buffer .entry)) .1 ⌝ }
+// SELECT of the AID s with a last byte, into a buffer.
+fn select_into(out: &mut [u8], at: usize, s: &[u8], last: u8, buffer: &mut [u8]) -> usize
+    ensures text { λ r. ⌜ Added (now (out .entry)) at (now (out .exit)) r (commandText (selectOf (now (s .entry)) last (now (buffer .entry)))) ⌝ }
+    ensures holds { λ r. ⌜ now (buffer .exit) ≡ selectOf (now (s .entry)) last (now (buffer .entry)) .1 ⌝ }
 {
-    let answer = command::select(s, buffer);
+    let answer = command::select(s, last, buffer);
     add_answer(out, at, answer, buffer)
 }
 
-// GET DATA of an object, into a buffer.
-fn get_data_into(out: &mut [u8], at: usize, kind: Kind, buffer: &mut [u8]) -> usize
-    ensures text { λ r. ⌜ Added (now (out .entry)) at (now (out .exit)) r (commandText (getDataOf kind (now (buffer .entry)))) ⌝ }
-    ensures holds { λ r. ⌜ now (buffer .exit) ≡ getDataOf kind (now (buffer .entry)) .1 ⌝ }
+// GET DATA of an object with a last byte, into a buffer.
+fn get_data_into(out: &mut [u8], at: usize, kind: Kind, last: u8, buffer: &mut [u8]) -> usize
+    ensures text { λ r. ⌜ Added (now (out .entry)) at (now (out .exit)) r (commandText (getDataOf kind last (now (buffer .entry)))) ⌝ }
+    ensures holds { λ r. ⌜ now (buffer .exit) ≡ getDataOf kind last (now (buffer .entry)) .1 ⌝ }
 {
-    let answer = command::get_data(kind, buffer);
+    let answer = command::get_data(kind, last, buffer);
     add_answer(out, at, answer, buffer)
 }
 
@@ -72,25 +74,33 @@ fn get_response_into(out: &mut [u8], at: usize, second: u8, buffer: &mut [u8]) -
     add_answer(out, at, answer, buffer)
 }
 
-// What select says of the AID s, with so much room.
-pub(crate) fn add_select(out: &mut [u8], at: usize, room: usize, s: &[u8]) -> usize
-    ensures { λ r. ⌜ Added (now (out .entry)) at (now (out .exit)) r (selectText room (now (s .entry))) ⌝ }
+// What select says of the AID s with a last byte, with so much room.
+pub(crate) fn add_select(out: &mut [u8], at: usize, last: u8, room: usize, s: &[u8]) -> usize
+    ensures { λ r. ⌜ Added (now (out .entry)) at (now (out .exit)) r (selectText last room (now (s .entry))) ⌝ }
 {
     let mut spare = [0xFFu8; SPARE];
     let n = number::least(SPARE, room);
-    select_into(out, at, s, &mut spare[..n])
+    select_into(out, at, s, last, &mut spare[..n])
 }
 
-// What get_data says, with so much room; the line spells no bytes.
+// The same of a line that spells the last byte, and then the AID.
+pub(crate) fn add_select_again(out: &mut [u8], at: usize, room: usize, s: &[u8]) -> usize
+    ensures { λ r. ⌜ Added (now (out .entry)) at (now (out .exit)) r (selectAgainText room (now (s .entry))) ⌝ }
+{
+    add_select(out, at, part::first(s), room, part::after(s, 1))
+}
+
+// What get_data says, with so much room; the line spells no bytes, or the last byte.
 pub(crate) fn add_get_data(out: &mut [u8], at: usize, kind: Kind, room: usize, s: &[u8]) -> usize
     ensures { λ r. ⌜ Added (now (out .entry)) at (now (out .exit)) r (getDataText kind room (now (s .entry))) ⌝ }
 {
-    if s.len() != 0 {
+    if 1 < s.len() {
         return append::add_no_vector(out, at);
     }
+    let last = part::first(s);
     let mut spare = [0xFFu8; SPARE];
     let n = number::least(SPARE, room);
-    get_data_into(out, at, kind, &mut spare[..n])
+    get_data_into(out, at, kind, last, &mut spare[..n])
 }
 
 // What get_response says of the one byte of s, with so much room.
@@ -105,12 +115,12 @@ pub(crate) fn add_get_response(out: &mut [u8], at: usize, room: usize, s: &[u8])
     get_response_into(out, at, s[0], &mut spare[..n])
 }
 
-// More is to be asked for, by that byte.
-fn add_more(out: &mut [u8], at: usize, second: u8) -> usize
-    ensures { λ r. ⌜ Added (now (out .entry)) at (now (out .exit)) r (textOfStatus (Status.More second)) ⌝ }
+// A word, and the second status byte.
+fn add_second(out: &mut [u8], at: usize, word: &[u8], second: u8) -> usize
+    ensures { λ r. ⌜ Added (now (out .entry)) at (now (out .exit)) r (now (word .entry) ++ hexOf (second ∷ [])) ⌝ }
 {
     let byte = [second];
-    let head = append::add(out, at, b"more ");
+    let head = append::add(out, at, word);
     append::add_hex(out, head, &byte)
 }
 
@@ -120,7 +130,8 @@ pub(crate) fn add_status(out: &mut [u8], at: usize, s: &[u8]) -> usize
 {
     match command::status_of(s) {
         Status::Done => append::add(out, at, b"done"),
-        Status::More(second) => add_more(out, at, second),
+        Status::More(second) => add_second(out, at, b"more ", second),
+        Status::Again(last) => add_second(out, at, b"again ", last),
         Status::Other => append::add(out, at, b"other"),
     }
 }

@@ -42,15 +42,19 @@ returns-9 c = rw (c .before .before .before .before .before .call2 .given .1) (c
 
 returns-10 : tie.Need-returns-10
 unfolding answerText
-returns-10 c = rw (c .before .before .before .before .before .call3 .given .1) (c .before .before .add-get-data .ensures)
+returns-10 c = rw (c .before .before .before .before .before .call3 .given .1) (c .before .before .add-select-again .ensures)
 
 returns-11 : tie.Need-returns-11
 unfolding answerText
-returns-11 c = rw (c .before .before .before .before .before .call4 .given .1) (c .before .before .add-get-response .ensures)
+returns-11 c = rw (c .before .before .before .before .before .call4 .given .1) (c .before .before .add-get-data .ensures)
 
 returns-12 : tie.Need-returns-12
 unfolding answerText
-returns-12 c = rw (c .before .before .before .before .enum-told8 .given .1) (c .before .before .add-status .ensures)
+returns-12 c = rw (c .before .before .before .before .before .call5 .given .1) (c .before .before .add-get-response .ensures)
+
+returns-13 : tie.Need-returns-13
+unfolding answerText
+returns-13 c = rw (c .before .before .before .before .enum-told8 .given .1) (c .before .before .add-status .ensures)
 
 pub answer-spec : {M : Type 1} → statement M
 answer-spec =
@@ -60,6 +64,8 @@ answer-spec =
     (λ c. search needs) (λ c κs. search needs) (λ c. search needs) (λ c κs. search needs) (λ c. search needs) (λ c κs. search needs)
     (λ c. search needs) (λ c κs. search needs) (λ c. search needs) (λ c κs. search needs) (λ c. search needs) (λ c κs. search needs)
     (λ c. search needs) (λ c κs. search needs) (λ c. search needs) (λ c κs. search needs) (λ c. search needs) (λ c κs. search needs)
-    (λ c. search needs) returns (λ c. search needs) returns-2 (λ c. search needs) returns-3 (λ c. search needs) returns-4
-    (λ c. search needs) returns-5 (λ c. search needs) returns-6 (λ c. search needs) returns-7 (λ c. search needs) returns-8
-    (λ c. search needs) returns-9 (λ c. search needs) returns-10 (λ c. search needs) returns-11 (λ c. search needs) returns-12)
+    (λ c. search needs) (λ c κs. search needs) (λ c. search needs) returns (λ c. search needs) returns-2
+    (λ c. search needs) returns-3 (λ c. search needs) returns-4 (λ c. search needs) returns-5
+    (λ c. search needs) returns-6 (λ c. search needs) returns-7 (λ c. search needs) returns-8
+    (λ c. search needs) returns-9 (λ c. search needs) returns-10 (λ c. search needs) returns-11
+    (λ c. search needs) returns-12 (λ c. search needs) returns-13)

@@ -21,7 +21,7 @@ returns c =
     let at-select-into = c .before .before .before in
     let at-least = at-select-into .before .before .before in
     let start = at-least .before .before .before in
-    same-text (ap (λ (l : List ℕ). commandText (selectOf (start .args .s .now) l)) (take-most _ _ (replicate 24 255) (at-least .least .ensures .0)))
+    same-text (ap (λ (l : List ℕ). commandText (selectOf (start .args .s .now) (start .args .last) l)) (take-most _ _ (replicate 24 255) (at-least .least .ensures .0)))
     (at-select-into .select-into .ensures .0)
 
 pub add-select-spec : {M : Type 1} → statement M
