@@ -1,4 +1,4 @@
--- Document 01's proofreader's twelve, and the stamp of its printed example: one table, and one theorem over it.
+-- Document 01's proofreader's twelve, the stamp of its printed example, and commands after a 6C (document 02, request 1): one table, and one theorem over it.
 -- Assumes nothing.
 use mathlib.Core.Path.{_≡_, refl}
 use mathlib.Core.Bool.{cond}
@@ -8,7 +8,7 @@ use lib.ListN.{replicate}
 use Rattle.common.specs.Lists.{listOf, sliceOf, all, number, xorOf, sameBytes}
 use Rattle.card.specs.Date.{daysIn, realDate, isDigitAt, spelled, goodDate, dateOf}
 use Rattle.card.specs.Template.{tlvsFrom, tlvsOf, every, wholeTo, lengthsOf, justOne, goodValue, goodFrom, templateOf}
-use Rattle.card.specs.Command.{getResponseBytes, selectBytes, getDataBytes, statusOf}
+use Rattle.card.specs.Command.{getResponseBytes, selectBytes, getDataBytes, withLast, statusOf}
 use Rattle.card.specs.Object.{rowsOf, fieldFrom, rowField, fieldsFrom, fieldsAnswer, objectFrom, objectOf, partIn, bytesAt, fieldValue, objectTag}
 use Rattle.card.specs.Tlv.{tagSize, tagNumber, lengthSize, lengthOf, endingOf, afterTag, headerOf, onlyFrom, onlyOf}
 use Rattle.card.specs.declared.object.Kind.the-variants.{Unsigned}
@@ -62,10 +62,16 @@ example date =
     (answered-by ((0x53 ∷ 0x27 ∷ []) ++ fields ++ (0x90 ∷ 0x00 ∷ []))
     (Arguments.verdict 3 1 (sample ++ (0xe2 ∷ [])) ∷ [])))
 
+-- The command after so many calls.
+next-after : List Arguments → List ℕ
+unfolding opening
+next-after calls = nextCommand (reading (begins (opening 20110410)) calls)
+
 -- What the definitions give, beside what the paper says: a, its check value, b, c; d, e, f, g; h, with 53 27 and with 53 81 27, where all starts are one more; i; j and k,
--- the outcome of check 3 where the example is opened on its expiry, 20110410, and a day later; l; and the example's stamp.
+-- the outcome of check 3 where the example is opened on its expiry, 20110410, and a day later; l; the example's stamp; and the command after 6C 0D to SELECT, after
+-- 61 0D to that, and after 6C 08 to the GET RESPONSE.
 pub table : List (List ℕ × List ℕ)
-unfolding sample digits fields opening answered-by
+unfolding sample digits fields opening answered-by next-after
 table =
     (answer (sample ++ (0xe2 ∷ [])), 0 ∷ digits)
     ∷ (checkValue (valuesIn (sample ++ (0xe2 ∷ []))) ∷ [], 8 ∷ [])
@@ -80,10 +86,13 @@ table =
     ∷ (object (0x53 ∷ 0x80 ∷ fields), 20 ∷ replicate 6 0)
     ∷ (tables.outcomeOf (example 20110410 .outcomes) 3 ∷ [], 2 ∷ [])
     ∷ (tables.outcomeOf (example 20110411 .outcomes) 3 ∷ [], 3 ∷ [])
-    ∷ (nextCommand (reading (begins (opening 20110410)) (answered-by (0x61 ∷ 0x00 ∷ []) [])), 0x00 ∷ 0xC0 ∷ 0x00 ∷ 0x00 ∷ 0x00 ∷ [])
+    ∷ (next-after (answered-by (0x61 ∷ 0x00 ∷ []) []), 0x00 ∷ 0xC0 ∷ 0x00 ∷ 0x00 ∷ 0x00 ∷ [])
     ∷ (stampOf (finding (example 20110410)), (0x02 ∷ 0x01 ∷ 0x00 ∷ 0x00 ∷ 0x00 ∷ 0x03 ∷ 0x00 ∷ 0x00 ∷ 0x02 ∷ 0x02 ∷ 0x02 ∷ 0x00 ∷ 0x01 ∷ 0x32 ∷ 0xDC ∷ 0x4A ∷ []) ++ sample ++ (0xe2 ∷ 0x01 ∷ 0x32 ∷ 0xDC ∷ 0x4A ∷ []))
+    ∷ (next-after (answered-by (0x6C ∷ 0x0D ∷ []) []), 0x00 ∷ 0xA4 ∷ 0x04 ∷ 0x00 ∷ 0x0B ∷ 0xA0 ∷ 0x00 ∷ 0x00 ∷ 0x03 ∷ 0x67 ∷ 0x20 ∷ 0x00 ∷ 0x00 ∷ 0x01 ∷ 0x01 ∷ 0x03 ∷ 0x0D ∷ [])
+    ∷ (next-after (answered-by (0x6C ∷ 0x0D ∷ []) (answered-by (0x61 ∷ 0x0D ∷ []) [])), 0x00 ∷ 0xC0 ∷ 0x00 ∷ 0x00 ∷ 0x0D ∷ [])
+    ∷ (next-after (answered-by (0x6C ∷ 0x0D ∷ []) (answered-by (0x61 ∷ 0x0D ∷ []) (answered-by (0x6C ∷ 0x08 ∷ []) []))), 0x00 ∷ 0xC0 ∷ 0x00 ∷ 0x00 ∷ 0x08 ∷ [])
     ∷ []
 
 pub twelve : map (λ row. row .0) table ≡ map (λ row. row .1) table
-unfolding example opening answered-by tables.objectSize tables.capacity tables.needs tables.checkServed tables.neededAt tables.neededOutcomes tables.verdictOutcome tables.expiryOutcome tables.listed tables.listOutcome tables.lowestFrom tables.causeOf tables.allPassed tables.standingOf tables.commandBytes tables.ruleCause tables.objectCause tables.joinedCause tables.stampLayout commandRefused answerRefused goodEnd judged answerTaken verdictRefused read finding stampOf number sameBytes isDigitAt spelled goodDate dateOf tlvsFrom tlvsOf every wholeTo lengthsOf justOne goodValue goodFrom templateOf getResponseBytes selectBytes getDataBytes statusOf bytesAt fieldValue objectTag charBit sentBit bytesOf valuesFrom valuesOf packRefusal packOf keyOf table answer real object place partIn realDate daysIn objectOf objectFrom fieldsAnswer fieldsFrom rowField fieldFrom rowsOf onlyOf onlyFrom headerOf afterTag endingOf tagSize tagNumber lengthSize lengthOf unpackOf unpackRefusal bitAt valueAt oddAt valuesIn digitsFrom marksFrom decimalAt checkValue all listOf sliceOf xorOf
+unfolding example next-after opening answered-by tables.objectSize tables.capacity tables.needs tables.checkServed tables.neededAt tables.neededOutcomes tables.verdictOutcome tables.expiryOutcome tables.listed tables.listOutcome tables.lowestFrom tables.causeOf tables.allPassed tables.standingOf tables.commandBytes tables.ruleCause tables.objectCause tables.joinedCause tables.stampLayout commandRefused answerRefused goodEnd judged answerTaken verdictRefused read finding stampOf number sameBytes isDigitAt spelled goodDate dateOf tlvsFrom tlvsOf every wholeTo lengthsOf justOne goodValue goodFrom templateOf getResponseBytes selectBytes getDataBytes withLast statusOf bytesAt fieldValue objectTag charBit sentBit bytesOf valuesFrom valuesOf packRefusal packOf keyOf table answer real object place partIn realDate daysIn objectOf objectFrom fieldsAnswer fieldsFrom rowField fieldFrom rowsOf onlyOf onlyFrom headerOf afterTag endingOf tagSize tagNumber lengthSize lengthOf unpackOf unpackRefusal bitAt valueAt oddAt valuesIn digitsFrom marksFrom decimalAt checkValue all listOf sliceOf xorOf
 twelve = refl
