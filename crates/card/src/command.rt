@@ -39,8 +39,8 @@ pub fn good_aid(n: usize) -> bool
     (AID_LEAST <= n) & (n <= AID_MOST)
 }
 
-// The last byte of SELECT and of GET DATA, until a card puts another in its place.
-pub const FIRST_LAST: u8 = 0x00;
+// The last byte of SELECT and of GET DATA (Le), until a card asks for another in its place.
+pub const FIRST_LE: u8 = 0x00;
 
 // SELECT: 00 A4 04 00, AID length, AID, last byte.
 pub fn select(aid: &[u8], last: u8, out: &mut [u8]) -> CommandAnswer

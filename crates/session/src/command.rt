@@ -7,7 +7,7 @@ use crate::state::Session;
 use crate::tables;
 use card::command;
 use card::command::CommandAnswer;
-use card::command::FIRST_LAST;
+use card::command::FIRST_LE;
 ghost use mathlib.Core.Path.{_≡_};
 ghost use mathlib.Core.Bool.{true, cond};
 ghost use lib.Dec.{eqb};
@@ -50,7 +50,7 @@ impl Session {
         let progress = self.progress;
         let next = progress.next;
         match next {
-            Next::Initial => self.write_initial(FIRST_LAST, out),
+            Next::Initial => self.write_initial(FIRST_LE, out),
             Next::GetResponse(second) => command::get_response(second, out),
             Next::InitialAgain(last) => self.write_initial(last, out),
             Next::GetResponseAgain(last) => command::get_response(last, out),

@@ -7,7 +7,7 @@ pub(crate) mod fascn;
 mod object;
 
 use crate::append;
-use card::command::FIRST_LAST;
+use card::command::FIRST_LE;
 use card::object::Kind;
 use common::slice;
 ghost use mathlib.Core.Path.{_≡_};
@@ -93,7 +93,7 @@ pub(crate) fn answer(out: &mut [u8], at: usize, call: VectorCall, s: &[u8]) -> u
         VectorCall::Date => object::add_date(out, at, s),
         VectorCall::Real => object::add_real(out, at, s),
         VectorCall::Object(kind) => object::add_object(out, at, kind, s),
-        VectorCall::Select(room) => command::add_select(out, at, FIRST_LAST, room, s),
+        VectorCall::Select(room) => command::add_select(out, at, FIRST_LE, room, s),
         VectorCall::SelectAgain(room) => command::add_select_again(out, at, room, s),
         VectorCall::GetData(kind, room) => command::add_get_data(out, at, kind, room, s),
         VectorCall::GetResponse(room) => command::add_get_response(out, at, room, s),
