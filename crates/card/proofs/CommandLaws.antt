@@ -9,9 +9,10 @@ use borrow.Author.Tests.{leb-true, not-false, lt-ltb, le-ltb, ne-eqb}
 use lib.Dec.{leb}
 use lib.ListN.{length, set, length-set, length-append}
 use lib.Seq.{set-append-seam}
-use Rattle.common.specs.Lists.{overFront}
+use Rattle.common.specs.Lists.{overFront, all, sameBytes}
 use Rattle.card.specs.Object.{objectTag}
-use Rattle.card.specs.Command.{withLast, selectBeside, selectBytes, getDataBytes, getResponseBytes, commandWritten, commandInto, aidLeast, aidMost, aidRefused, selectOf, getDataOf, getResponseOf}
+use Rattle.card.specs.Command.{withLast, selectBeside, selectBytes, getDataBytes, getResponseBytes, commandWritten, commandInto, aidLeast, aidMost, aidRefused, selectOf, getDataOf, getResponseOf, statusOf}
+use Rattle.card.specs.declared.command.Status.the-variants.{Other}
 use Rattle.card.specs.declared.object.Kind.{Kind}
 use Rattle.card.specs.declared.object.Kind.the-variants.{Signed, Unsigned, Fingers}
 
@@ -38,6 +39,11 @@ get-data-length k = rw (length-append, tag-length)
 pub get-response-length : (x : ℕ) → length (getResponseBytes x) ≡ 5
 unfolding getResponseBytes
 get-response-length x = refl
+
+-- one byte is another
+first-other : (a x : ℕ) → (a ≡ x → ⊥) → sameBytes (a ∷ []) (x ∷ []) ≡ false
+unfolding sameBytes all
+first-other a x f = rw (ne-eqb a x f)
 
 -- ---- the last byte
 
@@ -84,6 +90,13 @@ get-data-first k = get-data-last k 0x00
 pub get-response-last : (second last : ℕ) → withLast (getResponseBytes second) last ≡ getResponseBytes last
 unfolding getResponseBytes withLast
 get-response-last second last = refl
+
+-- ---- status words
+
+-- a status word that is not 90 00 and begins with neither 61 nor 6C is another
+pub status-other : (a b : ℕ) → sameBytes (a ∷ b ∷ []) (0x90 ∷ 0x00 ∷ []) ≡ false → (a ≡ 0x61 → ⊥) → (a ≡ 0x6C → ⊥) → statusOf (a ∷ b ∷ []) ≡ Other
+unfolding statusOf
+status-other a b e f g = rw (e, first-other a 0x61 f, first-other a 0x6C g)
 
 -- ---- the answer
 

@@ -91,7 +91,7 @@ commandAnswer ShortBuffer = (6, 0)
 
 -- ---- status words
 
--- "Status neither 90 00 nor 61 with any second byte" is another, but that 6C with any second byte is "send that again with this Le" (document 02, request 1).
+-- 90 00; 61 with any second byte; 6C with any second byte, "send that again with this Le" (document 02, request 1); any other.
 unfoldable pub statusOf : List ℕ → Status
 statusOf s =
     let startsWith : ℕ → Bool = λ first. sameBytes (take 1 s) (first ∷ []) in

@@ -32,10 +32,19 @@ pub or-right : (a b : Bool) → a || b ≡ false → b ≡ false
 or-right true b e = clash (rw e)
 or-right false b e = e
 
+pub or-true : (a : Bool) → a || true ≡ true
+or-true true = refl
+or-true false = refl
+
 -- a choice that is made on both sides by one test
 pub by-test : {A B : Type 0} (P : A → B → Type 0) (x y : A) (u v : B) (b : Bool) → (b ≡ true → P x u) → (b ≡ false → P y v) → P (cond b x y) (cond b u v)
 by-test P x y u v true f g = f refl
 by-test P x y u v false f g = g refl
+
+-- a choice whose first half has a property where the test passes, and its second where it fails, has it
+pub by-case : {A : Type 0} (P : A → Type 0) (x y : A) (b : Bool) → (b ≡ true → P x) → (b ≡ false → P y) → P (cond b x y)
+by-case P x y true f g = f refl
+by-case P x y false f g = g refl
 
 -- a choice between two that have a property has it
 pub either : {A : Type 0} (P : A → Type 0) (b : Bool) {x y : A} → P x → P y → P (cond b x y)

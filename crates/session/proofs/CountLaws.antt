@@ -1,23 +1,23 @@
 -- At most 8,196 answers are taken in a step, and 24,588 in all (`answersMost`), whatever the calls are: a law of the reading.
 -- Assumes nothing.
-use mathlib.Core.Path.{_≡_, refl, sym, ap, subst, _∙_}
+use mathlib.Core.Path.{_≡_, refl, sym, subst}
 use mathlib.Core.Bool.{Bool, true, false, cond, _&&_, _||_}
 use mathlib.Core.List.{List, [], _∷_, _++_}
-use Prim.Native.Nat.{ℕ, zero, suc, _+_, _-_, _*_, _≤_, _<_}
+use Prim.Native.Nat.{ℕ, zero, suc, _+_, _*_, _≤_, _<_}
 use native.Mathlib.Omega.{arith}
-use native.Mathlib.Nat.{le-antisymm}
 use lib.Dec.{eqb, ltb}
 use lib.ListN.{length, length-append}
-use borrow.Author.Tests.{ltb-true, ltb-false, lt-ltb, le-ltb, eqb-true, eqb-false, eq-eqb, ne-eqb, not-false}
+use borrow.Author.Tests.{ltb-false, eqb-true, eqb-false, not-false}
 use Rattle.card.specs.Command.{statusOf}
 use Rattle.card.specs.declared.command.Status.{Status}
 use Rattle.card.specs.declared.command.Status.the-variants.{Done, More, Again, Other}
-use Rattle.session.specs.Tables.{statusCause, emptyCause, fullCause, ends, hasStep2, capacity, answersMost, NextCommand, isResponse, isAgain, dataOf, statusBytes, ruleCause, joinedCause}
+use Rattle.session.specs.Tables.{statusCause, emptyCause, fullCause, ends, hasStep2, capacity, answersMost, NextCommand, isResponse, isSentAgain, dataOf, statusBytes, ruleCause, joinedCause}
 use Rattle.session.specs.Ranges.{causeInRange}
 use Rattle.session.specs.Condition.{commandConditions, answerConditions}
 use Rattle.session.specs.Reading.{Opening, Arguments, Progress, Reading, begins, atStep, nextCommand, commandRefused, sending, answerRefused, stopped, continued, step1End, step2End, goodEnd, judged, appended, causeBy, answerTaken, verdictRefused, verdictTaken, refusedBy, read, reading, takes, answersIn, answers}
-use Rattle.common.proofs.TestLaws.{clash, or-left, or-right, either}
+use Rattle.common.proofs.TestLaws.{clash, or-left, or-right, by-case, either}
 use Rattle.common.proofs.ConditionLaws.{none-fit}
+use Rattle.session.proofs.LeftLaws.{left, left-most, Onward, left-falls}
 use Rattle.session.proofs.RuleLaws.{rule-in-range, rule-fits, rule-again, joined-in-range}
 
 -- a cause that did arise ends the reading
@@ -32,57 +32,7 @@ abbrev asked : Progress → ℕ
 asked c = cond (isResponse (c .next)) (length (c .joined) + 1) 0
 
 abbrev used : Progress → ℕ
-used c = 2 * asked c + cond (isAgain (c .next)) 1 0 + cond (ends (c .cause)) 1 0
-
--- how many may still be taken in step k, at step s with u used up
-unfoldable left : ℕ → ℕ → ℕ → ℕ → ℕ
-left mode k s u = cond (ltb k s) 0 (cond (ltb s k) (answersMost mode k) (answersMost mode k - u))
-
-left-most : (mode k s u : ℕ) → left mode k s u ≤ answersMost mode k
-unfolding left
-left-most mode k s u =
-    either (λ (n : ℕ). n ≤ answersMost mode k) (ltb k s) (omega arith) (either (λ (n : ℕ). n ≤ answersMost mode k) (ltb s k) (omega arith) (omega arith))
-
-left-past : (mode k s u : ℕ) → k < s → left mode k s u ≡ 0
-unfolding left
-left-past mode k s u h = rw (lt-ltb k s h)
-
-left-before : (mode k s u : ℕ) → s < k → left mode k s u ≡ answersMost mode k
-unfolding left
-left-before mode k s u h = rw (le-ltb k s (omega arith), lt-ltb s k h)
-
-left-at : (mode k s u : ℕ) → s ≡ k → left mode k s u ≡ answersMost mode k - u
-unfolding left
-left-at mode k s u h = rw (le-ltb k s (omega arith), le-ltb s k (omega arith))
-
--- an answer that is taken in step s uses some of it up, or leads to a later step
-data Onward (mode s u t v : ℕ) : Type 0 where
-  same : t ≡ s → u < v → v ≤ answersMost mode s → Onward mode s u t v
-  later : s < t → u < answersMost mode s → Onward mode s u t v
-
--- so that one fewer is left
-left-falls : (mode k s u t v : ℕ) → Onward mode s u t v → cond (eqb s k) 1 0 + left mode k t v ≤ left mode k s u
-left-falls mode k s u t v o = go (ltb k s) (ltb s k) refl refl o
-  where
-    go : (x y : Bool) → ltb k s ≡ x → ltb s k ≡ y → Onward mode s u t v → cond (eqb s k) 1 0 + left mode k t v ≤ left mode k s u
-    go true y p q (Onward.same e l m) =
-        let h = ltb-true k s p in
-        rw (left-past mode k s u h, left-past mode k t v (omega arith), ne-eqb s k (λ z. omega arith)) (omega arith)
-    go true y p q (Onward.later l m) =
-        let h = ltb-true k s p in
-        rw (left-past mode k s u h, left-past mode k t v (omega arith), ne-eqb s k (λ z. omega arith)) (omega arith)
-    go false true p q a =
-        let h = ltb-true s k q in
-        let most = left-most mode k t v in
-        rw (left-before mode k s u h, ne-eqb s k (λ z. omega arith)) (omega arith)
-    go false false p q (Onward.same e l m) =
-        let h : s ≡ k = le-antisymm (ltb-false k s p) (ltb-false s k q) in
-        let z : answersMost mode s ≡ answersMost mode k = ap (answersMost mode) h in
-        rw (left-at mode k s u h, left-at mode k t v (e ∙ h), eq-eqb s k h) (omega arith)
-    go false false p q (Onward.later l m) =
-        let h : s ≡ k = le-antisymm (ltb-false k s p) (ltb-false s k q) in
-        let z : answersMost mode s ≡ answersMost mode k = ap (answersMost mode) h in
-        rw (left-at mode k s u h, left-past mode k t v (omega arith), eq-eqb s k h) (omega arith)
+used c = 2 * asked c + cond (isSentAgain (c .next)) 1 0 + cond (ends (c .cause)) 1 0
 
 -- ---- a call
 
@@ -161,7 +111,7 @@ module _ (r : Reading) (h : Countable (r .opening .mode) (r .progress)) (below :
   stops joined k a b l m p q =
       let counts : Countable (r .opening .mode) (stopped (r .progress) joined k a b) = record { low = h .low; small = m; sent = λ z. clash z } in
       let most = asked-most (r .opening .mode) (stopped (r .progress) joined k a b) counts in
-      let one = one-most (isAgain (r .progress .next)) in
+      let one = one-most (isSentAgain (r .progress .next)) in
       let grows = asked-grows joined l in
       let e = arose-ends k p q in
       record {
@@ -172,7 +122,7 @@ module _ (r : Reading) (h : Countable (r .opening .mode) (r .progress)) (below :
   moves : (s : ℕ) → r .progress .step < s → s ≤ 3 → Spends (r .opening .mode) true (r .progress) (atStep s)
   moves s l m =
       let most = asked-most (r .opening .mode) (r .progress) h in
-      let one = one-most (isAgain (r .progress .next)) in
+      let one = one-most (isSentAgain (r .progress .next)) in
       record {
         counts = record { low = m; small = omega arith; sent = λ z. clash z };
         falls = λ n. left-falls (r .opening .mode) n _ _ _ _ (Onward.later l (rw no-cause (omega arith)));
@@ -182,14 +132,14 @@ module _ (r : Reading) (h : Countable (r .opening .mode) (r .progress)) (below :
   continues : (joined : List ℕ) (second : ℕ) → asked (r .progress) < length joined + 1 → length joined ≤ capacity (r .opening .mode) (r .progress .step)
       → Spends (r .opening .mode) true (r .progress) (continued (r .progress) joined (NextCommand.getResponse second))
   continues joined second l m =
-      let one = one-most (isAgain (r .progress .next)) in
+      let one = one-most (isSentAgain (r .progress .next)) in
       record {
         counts = record { low = h .low; small = m; sent = λ z. clash z };
         falls = λ n. left-falls (r .opening .mode) n _ _ _ _ (Onward.same refl (rw no-cause (omega (arith, one))) (omega arith));
       }
 
   -- after 6C
-  repeats : (joined : List ℕ) (last : ℕ) → isAgain (r .progress .next) ≡ false → length (r .progress .joined) ≤ length joined
+  repeats : (joined : List ℕ) (last : ℕ) → isSentAgain (r .progress .next) ≡ false → length (r .progress .joined) ≤ length joined
       → length joined ≤ capacity (r .opening .mode) (r .progress .step)
       → Spends (r .opening .mode) true (r .progress) (continued (r .progress) joined (NextCommand.again (r .progress .next) last))
   repeats joined last e l m =
@@ -202,16 +152,15 @@ module _ (r : Reading) (h : Countable (r .opening .mode) (r .progress)) (below :
         falls = λ n. left-falls (r .opening .mode) n _ _ _ _ (Onward.same refl (rw (no-cause, e) (omega (arith, grows))) (omega (arith, most)));
       }
 
-  choose : (q p : Reading) (b : Bool) → (b ≡ true → Spends (r .opening .mode) true (r .progress) (q .progress)) → (b ≡ false → Spends (r .opening .mode) true (r .progress) (p .progress))
-      → Spends (r .opening .mode) true (r .progress) ((cond b q p) .progress)
-  choose q p true f g = f refl
-  choose q p false f g = g refl
+  -- an answer that is taken leaves such a reading
+  abbrev Leaves : Reading → Type 0
+  Leaves q = Spends (r .opening .mode) true (r .progress) (q .progress)
 
   ends-well : (joined cancelled : List ℕ) → Spends (r .opening .mode) true (r .progress) (goodEnd r joined cancelled .progress)
   unfolding goodEnd
   ends-well joined cancelled =
-      choose _ _ (eqb (r .progress .step) 0) (λ e. moves 1 (let z = eqb-true (r .progress .step) 0 e in omega arith) (omega arith))
-      (λ _. choose _ _ (eqb (r .progress .step) 1)
+      by-case Leaves _ _ (eqb (r .progress .step) 0) (λ e. moves 1 (let z = eqb-true (r .progress .step) 0 e in omega arith) (omega arith))
+      (λ _. by-case Leaves _ _ (eqb (r .progress .step) 1)
       (λ e. let z = eqb-true (r .progress .step) 1 e in let t = either (λ (n : ℕ). (1 < n) × (n ≤ 3)) (hasStep2 (r .opening .mode)) {x = 2} {y = 3} (omega arith, omega arith) (omega arith, omega arith) in moves _ (rw z (t .0)) (t .1))
       (λ _. moves 3 below (omega arith)))
 
@@ -220,7 +169,7 @@ module _ (r : Reading) (h : Countable (r .opening .mode) (r .progress)) (below :
   unfolding judged
   judges joined cancelled l m =
       let k = joinedCause (r .opening .mode) (r .progress .step) joined in
-      choose _ _ (eqb k 0) (λ _. ends-well joined cancelled) (λ e. stops joined k 0 0 l m (joined-in-range (r .opening .mode) (r .progress .step) joined) e)
+      by-case Leaves _ _ (eqb k 0) (λ _. ends-well joined cancelled) (λ e. stops joined k 0 0 l m (joined-in-range (r .opening .mode) (r .progress .step) joined) e)
 
   joins : (status : Status) (bytes cancelled : List ℕ) → causeBy (r .progress) (capacity (r .opening .mode) (r .progress .step)) status bytes ≡ 0
       → Spends (r .opening .mode) true (r .progress) (judged r (r .progress .joined ++ bytes) cancelled .progress)
@@ -246,7 +195,7 @@ module _ (r : Reading) (h : Countable (r .opening .mode) (r .progress)) (below :
   unfolding answerTaken
   answers-one bytes status cancelled =
       let k = causeBy (r .progress) (capacity (r .opening .mode) (r .progress .step)) (statusOf status) bytes in
-      choose _ _ (eqb k 0) (λ e. appends (statusOf status) bytes cancelled (eqb-true k 0 e))
+      by-case Leaves _ _ (eqb k 0) (λ e. appends (statusOf status) bytes cancelled (eqb-true k 0 e))
       (λ e. stops (r .progress .joined) k _ _ (omega arith) (h .small) (rule-in-range (statusOf status) (r .progress .next) (length bytes) (length (r .progress .joined)) (capacity (r .opening .mode) (r .progress .step))) e)
 
 -- an answer is taken only where a command is outstanding

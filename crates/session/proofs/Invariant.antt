@@ -15,7 +15,7 @@ use Rattle.card.specs.Date.{dateOf}
 use Rattle.card.specs.declared.object.Part.{Part}
 use Rattle.card.specs.declared.command.Status.{Status}
 use Rattle.card.specs.declared.command.Status.the-variants.{Done, More, Again, Other}
-use Rattle.session.specs.Tables.{checks, goodKind, needs, checkServed, outcomeOf, verdictOutcome, expiryOutcome, listOutcome, hasStep2, kindAt, baseOf, capacity, objectSize, NextCommand, commandBytes, isResponse, isAgain, ruleCause, fascnRead, keyRead, expiryRead, statusShown}
+use Rattle.session.specs.Tables.{checks, goodKind, needs, checkServed, outcomeOf, verdictOutcome, expiryOutcome, listOutcome, hasStep2, kindAt, baseOf, capacity, objectSize, NextCommand, commandBytes, isResponse, isSentAgain, ruleCause, fascnRead, keyRead, expiryRead, statusShown}
 use Rattle.session.specs.Reading.{Opening, Progress, StepOne, Verdict, Found, Reading, ownFascn}
 use Rattle.session.specs.Finding.{verdictOn}
 use Rattle.session.specs.Ranges.{stepInRange, causeInRange, outstandingInRange, outcomesInRange}
@@ -50,12 +50,12 @@ next-response (NextCommand.again command last) = again (next-of command) ∙ nex
     again (InitialAgain former) = refl
     again (GetResponseAgain former) = refl
 
-pub next-again : (n : NextCommand) → isAgain (nextOf (next-of n)) ≡ isAgain n
+pub next-again : (n : NextCommand) → isSentAgain (nextOf (next-of n)) ≡ isSentAgain n
 next-again NextCommand.ofStep = refl
 next-again (NextCommand.getResponse second) = refl
 next-again (NextCommand.again command last) = again (next-of command)
   where
-    again : (x : Next) → isAgain (nextOf (sentAgain x last)) ≡ true
+    again : (x : Next) → isSentAgain (nextOf (sentAgain x last)) ≡ true
     again Initial = refl
     again (GetResponse second) = refl
     again (InitialAgain former) = refl

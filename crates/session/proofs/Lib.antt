@@ -45,6 +45,8 @@ pub mod FieldLaws
 pub mod StampLaws
 -- GrantLaws: granted, said of the calls
 pub mod GrantLaws
+-- LeftLaws: how many answers may still be taken
+pub mod LeftLaws
 -- CountLaws: how many answers are taken
 pub mod CountLaws
 -- CorrectionLaws: what a 6C does, by the answer taken before

@@ -13,7 +13,7 @@ use Rattle.card.specs.Object.{malformedObject, expiryTag, objectOf, fieldValue}
 use Rattle.card.specs.Date.{illFormedDate, dateOf}
 use Rattle.card.specs.declared.command.Status.{Status}
 use Rattle.card.specs.declared.command.Status.the-variants.{Again}
-use Rattle.session.specs.Tables.{statusCause, emptyCause, fullCause, fascnCause, kindAt, fascnRead, NextCommand, isResponse, isAgain, wrongStatus, isMore, ruleCause, objectCause, joinedCause}
+use Rattle.session.specs.Tables.{statusCause, emptyCause, fullCause, fascnCause, kindAt, fascnRead, NextCommand, isResponse, isSentAgain, wrongStatus, isMore, ruleCause, objectCause, joinedCause}
 use Rattle.session.specs.Ranges.{causeInRange}
 use Rattle.common.proofs.TestLaws.{either, or-left, or-right}
 use Rattle.common.proofs.ConditionLaws.{none-fit}
@@ -36,11 +36,11 @@ rule-fits status command n total most e =
     ltb-false most (total + n) (f .1 .1 .0)
 
 -- a 6C that gives no cause is the first, and has no data
-pub rule-again : (last : ℕ) (command : NextCommand) (n total most : ℕ) → ruleCause (Again last) command n total most ≡ 0 → (isAgain command ≡ false) × (n ≡ 0)
+pub rule-again : (last : ℕ) (command : NextCommand) (n total most : ℕ) → ruleCause (Again last) command n total most ≡ 0 → (isSentAgain command ≡ false) × (n ≡ 0)
 unfolding ruleCause
 rule-again last command n total most e =
     let f = none-fit ((statusCause, wrongStatus (Again last) command n) ∷ (emptyCause, false) ∷ (fullCause, ltb most (total + n)) ∷ []) refl e .0 in
-    (or-left (isAgain command) (not (eqb n 0)) f, eqb-true n 0 (not-false _ (or-right (isAgain command) (not (eqb n 0)) f)))
+    (or-left (isSentAgain command) (not (eqb n 0)) f, eqb-true n 0 (not-false _ (or-right (isSentAgain command) (not (eqb n 0)) f)))
 
 -- what the judging of joined data gives is a cause, or 0
 pub joined-in-range : (mode step : ℕ) (joined : List ℕ) → causeInRange (joinedCause mode step joined) ≡ true

@@ -51,14 +51,18 @@ object s = (objectOf Unsigned s .0 ∷ []) ++ place s 0x30 ++ place s 0x34 ++ pl
 opening : ℕ → Opening
 opening date = record { mode = 2; date = date; aid = 0xA0 ∷ 0x00 ∷ 0x00 ∷ 0x03 ∷ 0x67 ∷ 0x20 ∷ 0x00 ∷ 0x00 ∷ 0x01 ∷ 0x01 ∷ 0x03 ∷ [] }
 
+-- its first answer
+template : List ℕ
+template = 0x61 ∷ 0x08 ∷ 0x4F ∷ 0x06 ∷ 0x20 ∷ 0x00 ∷ 0x00 ∷ 0x01 ∷ 0x01 ∷ 0x03 ∷ 0x90 ∷ 0x00 ∷ []
+
 answered-by : List ℕ → List Arguments → List Arguments
 answered-by bytes ts = Arguments.command 261 ∷ Arguments.answer 8192 bytes [] ∷ ts
 
 example : ℕ → Reading
-unfolding answered-by opening sample fields
+unfolding answered-by template opening sample fields
 example date =
     reading (begins (opening date))
-    (answered-by (0x61 ∷ 0x08 ∷ 0x4F ∷ 0x06 ∷ 0x20 ∷ 0x00 ∷ 0x00 ∷ 0x01 ∷ 0x01 ∷ 0x03 ∷ 0x90 ∷ 0x00 ∷ [])
+    (answered-by template
     (answered-by ((0x53 ∷ 0x27 ∷ []) ++ fields ++ (0x90 ∷ 0x00 ∷ []))
     (Arguments.verdict 3 1 (sample ++ (0xe2 ∷ [])) ∷ [])))
 
@@ -69,9 +73,9 @@ next-after calls = nextCommand (reading (begins (opening 20110410)) calls)
 
 -- What the definitions give, beside what the paper says: a, its check value, b, c; d, e, f, g; h, with 53 27 and with 53 81 27, where all starts are one more; i; j and k,
 -- the outcome of check 3 where the example is opened on its expiry, 20110410, and a day later; l; the example's stamp; and the command after 6C 0D to SELECT, after
--- 61 0D to that, and after 6C 08 to the GET RESPONSE.
+-- 61 0D to that, after 6C 08 to the GET RESPONSE, and after 6C 29 to GET DATA.
 pub table : List (List ℕ × List ℕ)
-unfolding sample digits fields opening answered-by next-after
+unfolding sample digits fields opening template answered-by next-after
 table =
     (answer (sample ++ (0xe2 ∷ [])), 0 ∷ digits)
     ∷ (checkValue (valuesIn (sample ++ (0xe2 ∷ []))) ∷ [], 8 ∷ [])
@@ -91,8 +95,9 @@ table =
     ∷ (next-after (answered-by (0x6C ∷ 0x0D ∷ []) []), 0x00 ∷ 0xA4 ∷ 0x04 ∷ 0x00 ∷ 0x0B ∷ 0xA0 ∷ 0x00 ∷ 0x00 ∷ 0x03 ∷ 0x67 ∷ 0x20 ∷ 0x00 ∷ 0x00 ∷ 0x01 ∷ 0x01 ∷ 0x03 ∷ 0x0D ∷ [])
     ∷ (next-after (answered-by (0x6C ∷ 0x0D ∷ []) (answered-by (0x61 ∷ 0x0D ∷ []) [])), 0x00 ∷ 0xC0 ∷ 0x00 ∷ 0x00 ∷ 0x0D ∷ [])
     ∷ (next-after (answered-by (0x6C ∷ 0x0D ∷ []) (answered-by (0x61 ∷ 0x0D ∷ []) (answered-by (0x6C ∷ 0x08 ∷ []) []))), 0x00 ∷ 0xC0 ∷ 0x00 ∷ 0x00 ∷ 0x08 ∷ [])
+    ∷ (next-after (answered-by template (answered-by (0x6C ∷ 0x29 ∷ []) [])), 0x00 ∷ 0xCB ∷ 0x3F ∷ 0xFF ∷ 0x05 ∷ 0x5C ∷ 0x03 ∷ 0x5F ∷ 0xC1 ∷ 0x04 ∷ 0x29 ∷ [])
     ∷ []
 
 pub twelve : map (λ row. row .0) table ≡ map (λ row. row .1) table
-unfolding example next-after opening answered-by tables.objectSize tables.capacity tables.needs tables.checkServed tables.neededAt tables.neededOutcomes tables.verdictOutcome tables.expiryOutcome tables.listed tables.listOutcome tables.lowestFrom tables.causeOf tables.allPassed tables.standingOf tables.commandBytes tables.ruleCause tables.objectCause tables.joinedCause tables.stampLayout commandRefused answerRefused goodEnd judged answerTaken verdictRefused read finding stampOf number sameBytes isDigitAt spelled goodDate dateOf tlvsFrom tlvsOf every wholeTo lengthsOf justOne goodValue goodFrom templateOf getResponseBytes selectBytes getDataBytes withLast statusOf bytesAt fieldValue objectTag charBit sentBit bytesOf valuesFrom valuesOf packRefusal packOf keyOf table answer real object place partIn realDate daysIn objectOf objectFrom fieldsAnswer fieldsFrom rowField fieldFrom rowsOf onlyOf onlyFrom headerOf afterTag endingOf tagSize tagNumber lengthSize lengthOf unpackOf unpackRefusal bitAt valueAt oddAt valuesIn digitsFrom marksFrom decimalAt checkValue all listOf sliceOf xorOf
+unfolding example next-after opening template answered-by tables.objectSize tables.capacity tables.needs tables.checkServed tables.neededAt tables.neededOutcomes tables.verdictOutcome tables.expiryOutcome tables.listed tables.listOutcome tables.lowestFrom tables.causeOf tables.allPassed tables.standingOf tables.commandBytes tables.ruleCause tables.objectCause tables.joinedCause tables.stampLayout commandRefused answerRefused goodEnd judged answerTaken verdictRefused read finding stampOf number sameBytes isDigitAt spelled goodDate dateOf tlvsFrom tlvsOf every wholeTo lengthsOf justOne goodValue goodFrom templateOf getResponseBytes selectBytes getDataBytes withLast statusOf bytesAt fieldValue objectTag charBit sentBit bytesOf valuesFrom valuesOf packRefusal packOf keyOf table answer real object place partIn realDate daysIn objectOf objectFrom fieldsAnswer fieldsFrom rowField fieldFrom rowsOf onlyOf onlyFrom headerOf afterTag endingOf tagSize tagNumber lengthSize lengthOf unpackOf unpackRefusal bitAt valueAt oddAt valuesIn digitsFrom marksFrom decimalAt checkValue all listOf sliceOf xorOf
 twelve = refl

@@ -105,7 +105,7 @@ abbrev pub stopped : Progress → List ℕ → ℕ → ℕ → ℕ → Progress
 stopped p joined cause sw1 sw2 =
     record { step = p .step; cause = cause; sw1 = sw1; sw2 = sw2; joined = joined; outstanding = false; next = p .next }
 
--- The step goes on with another command.
+-- The step goes on, with such a command next.
 abbrev pub continued : Progress → List ℕ → NextCommand → Progress
 continued p joined next = record { step = p .step; cause = 0; sw1 = 0; sw2 = 0; joined = joined; outstanding = false; next = next }
 

@@ -111,7 +111,7 @@ listOutcome key cancelled = cond (listed key cancelled) failed passed
 
 -- ---- cause and standing
 
--- The causes that end the reading, 16 to 22: a status word that is neither 90 00 nor 61 with any second byte; 61 without data to GET RESPONSE; a step's total past its
+-- The causes that end the reading, 16 to 22: a status word that ends it (`wrongStatus`); 61 without data to GET RESPONSE; a step's total past its
 -- capacity; and FASC-N ill-formed. Template malformed (19), object malformed (20) and date ill-formed (22) are named by their readers, in crate card.
 abbrev pub statusCause : ℕ
 statusCause = 16
@@ -221,10 +221,10 @@ isResponse (NextCommand.getResponse second) = true
 isResponse (NextCommand.again command last) = isResponse command
 
 -- The command is one that is sent again: the answer taken before was a 6C (`after-answer`, proofs/CorrectionLaws.antt).
-abbrev pub isAgain : NextCommand → Bool
-isAgain NextCommand.ofStep = false
-isAgain (NextCommand.getResponse second) = false
-isAgain (NextCommand.again command last) = true
+abbrev pub isSentAgain : NextCommand → Bool
+isSentAgain NextCommand.ofStep = false
+isSentAgain (NextCommand.getResponse second) = false
+isSentAgain (NextCommand.again command last) = true
 
 -- "An answer is data, then two status bytes"; "answer under 2 or over 258 bytes" is refused.
 abbrev pub statusSize : ℕ
@@ -244,7 +244,7 @@ statusBytes answer = drop (length answer - statusSize) answer
 abbrev pub wrongStatus : Status → NextCommand → ℕ → Bool
 wrongStatus Done command n = false
 wrongStatus (More second) command n = false
-wrongStatus (Again last) command n = isAgain command || not (eqb n 0)
+wrongStatus (Again last) command n = isSentAgain command || not (eqb n 0)
 wrongStatus Other command n = true
 
 -- 61 with any second byte.

@@ -17,7 +17,7 @@ use common::slice;
 ghost use mathlib.Core.Path.{_≡_};
 ghost use Prim.Native.Nat.{_+_, _≤_, _<_, _^_};
 ghost use lib.ListN.{length};
-ghost use Rattle.session.specs.Tables.{capacity, objectSize, isResponse, isAgain, wrongStatus, isMore, statusSize, answerMost, ruleCause};
+ghost use Rattle.session.specs.Tables.{capacity, objectSize, isResponse, isSentAgain, wrongStatus, isMore, statusSize, answerMost, ruleCause};
 ghost use Rattle.session.specs.Operation.{replyNumber, given, nextOf, answerRefusal, causeIn, appendedSession, answerTakenSession, answerTakenBuffer, answerOf, answerBuffer};
 ghost use Rattle.session.specs.Promise.{AnswerPromise};
 
@@ -32,8 +32,8 @@ fn is_response(next: Next) -> bool
     }
 }
 
-fn is_again(next: Next) -> bool
-    ensures { λ r. ⌜ r ≡ isAgain (nextOf next) ⌝ }
+fn is_sent_again(next: Next) -> bool
+    ensures { λ r. ⌜ r ≡ isSentAgain (nextOf next) ⌝ }
 {
     match next {
         Next::Initial => false,
@@ -50,7 +50,7 @@ fn wrong_status(status: Status, next: Next, n: usize) -> bool
     match status {
         Status::Done => false,
         Status::More(_) => false,
-        Status::Again(_) => is_again(next) | (n != 0),
+        Status::Again(_) => is_sent_again(next) | (n != 0),
         Status::Other => true,
     }
 }

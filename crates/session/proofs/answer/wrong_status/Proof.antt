@@ -5,7 +5,7 @@ use Rattle.session.proofs.answer.wrong_status.Statement.{statement}
 use Rattle.session.proofs.answer.wrong_status.Tie as tie
 
 returns-3 : tie.Need-returns-3
-returns-3 c = rw (c .before .enum-told3 .given .1, sym (c .is-again .ensures))
+returns-3 c = rw (c .before .enum-told3 .given .1, sym (c .is-sent-again .ensures))
 
 pub wrong-status-spec : {M : Type 1} → statement M
 wrong-status-spec =
