@@ -99,7 +99,7 @@ pub fn get_data(kind: Kind, last: u8, out: &mut [u8]) -> CommandAnswer
     CommandAnswer::Written(GET_DATA_BYTES)
 }
 
-// GET RESPONSE: 00 C0 00 00, then the second status byte of the answer just taken, be it 61 or 6C.
+// GET RESPONSE: 00 C0 00 00, then the second status byte of the answer just taken, which was a 61 or a 6C.
 pub fn get_response(second: u8, out: &mut [u8]) -> CommandAnswer
     ensures { λ r. ⌜ (commandAnswer r, now (out .exit)) ≡ getResponseOf second (now (out .entry)) ⌝ }
 {

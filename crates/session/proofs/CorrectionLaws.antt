@@ -185,7 +185,7 @@ none-over : (l : List ℕ) (at : ℕ) → overPlaces l at [] ≡ l
 unfolding overPlaces
 none-over l at = let z : at + 0 ≡ at = omega arith in rw (z, append-nil) (take-append-drop at l)
 
--- an answer without data, as a 6C that is taken, leaves the object buffer as it was
+-- an answer without data, such as a first 6C, leaves the object buffer as it was
 pub no-data-stays : (s : Session) (object status : List ℕ) → answerTakenBuffer s object [] status ≡ object
 unfolding answerTakenBuffer
 no-data-stays s object status =

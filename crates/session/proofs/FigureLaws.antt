@@ -1,4 +1,4 @@
--- Document 01's figures: what is to be known of the object buffer's size, of where each step's data begins in it and how much it may hold, and of the ceiling on answers.
+-- Document 01's figures: what is to be known of the object buffer's size, of where each step's data begins in it and how much it may hold; and the ceiling on answers (document 02, request 1).
 -- Assumes nothing.
 use mathlib.Core.Path.{_≡_, refl}
 use mathlib.Core.Bool.{true, cond}

@@ -59,5 +59,5 @@ pub mod PromiseLaws
 pub mod CallPromiseLaws
 -- SameFindingLaws: what cannot change a finding
 pub mod SameFindingLaws
--- Twelve: document 01's worked examples
+-- Twelve: document 01's worked examples, and commands after a 6C
 pub mod Twelve

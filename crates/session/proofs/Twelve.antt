@@ -71,7 +71,7 @@ next-after : List Arguments → List ℕ
 unfolding opening
 next-after calls = nextCommand (reading (begins (opening 20110410)) calls)
 
--- What the definitions give, beside what the paper says: a, its check value, b, c; d, e, f, g; h, with 53 27 and with 53 81 27, where all starts are one more; i; j and k,
+-- What the definitions give, beside what document 01 says and, in the last four rows, what request 1 of document 02 makes of a command: a, its check value, b, c; d, e, f, g; h, with 53 27 and with 53 81 27, where all starts are one more; i; j and k,
 -- the outcome of check 3 where the example is opened on its expiry, 20110410, and a day later; l; the example's stamp; and the command after 6C 0D to SELECT, after
 -- 61 0D to that, after 6C 08 to the GET RESPONSE, and after 6C 29 to GET DATA.
 pub table : List (List ℕ × List ℕ)

@@ -97,7 +97,7 @@ nextOf (GetResponse second) = NextCommand.getResponse second
 nextOf (InitialAgain last) = NextCommand.again NextCommand.ofStep last
 nextOf (GetResponseAgain last) = NextCommand.again (NextCommand.getResponse last) last
 
--- The same command, to be sent again with another last byte. After a 6C to a command that was sent again it is not asked for: that is cause 16.
+-- The same command, to be sent again with another last byte. The last two cases do not arise: a 6C to a command that was sent again is cause 16.
 abbrev pub sentAgain : Next → ℕ → Next
 sentAgain Initial last = InitialAgain last
 sentAgain (GetResponse second) last = GetResponseAgain last
@@ -141,7 +141,7 @@ abbrev pub progressStopped : SessionProgress → ℕ → ℕ → ℕ → ℕ →
 progressStopped p filled cause sw1 sw2 =
     record { step = p .step; filled = filled; outstanding = false; next = p .next; cause = cause; sw1 = sw1; sw2 = sw2 }
 
--- The step goes on, n bytes being appended, with such a command next.
+-- The step goes on, n bytes being appended, with this command next.
 abbrev pub progressContinued : SessionProgress → ℕ → Next → SessionProgress
 progressContinued p n next = record { step = p .step; filled = p .filled + n; outstanding = false; next = next; cause = 0; sw1 = 0; sw2 = 0 }
 

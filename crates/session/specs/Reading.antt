@@ -1,4 +1,4 @@
--- Document 01's reading of an opening and a list of calls: "fed the opening's mode, date and AID and each call's arguments (not the session, and only the length of the
+-- Document 01's reading, with request 1 of document 02, of an opening and a list of calls: "fed the opening's mode, date and AID and each call's arguments (not the session, and only the length of the
 -- object buffer), never a result". It knows lists of bytes, and no session, no buffer and no place in one.
 -- Assumes nothing.
 use mathlib.Core.Bool.{Bool, true, false, cond, _&&_}
@@ -105,7 +105,7 @@ abbrev pub stopped : Progress → List ℕ → ℕ → ℕ → ℕ → Progress
 stopped p joined cause sw1 sw2 =
     record { step = p .step; cause = cause; sw1 = sw1; sw2 = sw2; joined = joined; outstanding = false; next = p .next }
 
--- The step goes on, with such a command next.
+-- The step goes on, with this command next.
 abbrev pub continued : Progress → List ℕ → NextCommand → Progress
 continued p joined next = record { step = p .step; cause = 0; sw1 = 0; sw2 = 0; joined = joined; outstanding = false; next = next }
 

@@ -1,4 +1,4 @@
--- Document 01's tables by mode, step, check and verdict kind, and its rules on single values. The reading of a list of calls and the operations on a
+-- Document 01's tables by mode, step, check and verdict kind, and its rules on single values, with request 1 of document 02. The reading of a list of calls and the operations on a
 -- session share them, and each stands here once.
 -- Assumes nothing.
 use mathlib.Core.Bool.{Bool, true, false, cond, not, _&&_, _||_}
@@ -220,7 +220,7 @@ isResponse NextCommand.ofStep = false
 isResponse (NextCommand.getResponse second) = true
 isResponse (NextCommand.again command last) = isResponse command
 
--- The command is one that is sent again: the answer taken before was a 6C (`after-answer`, proofs/CorrectionLaws.antt).
+-- The command is one that is sent again. As long as the reading has not ended, that is where the answer taken last was a 6C (`after-answer`, proofs/CorrectionLaws.antt).
 abbrev pub isSentAgain : NextCommand → Bool
 isSentAgain NextCommand.ofStep = false
 isSentAgain (NextCommand.getResponse second) = false

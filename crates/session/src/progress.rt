@@ -1,4 +1,4 @@
-// A session's progress: a step begins, it goes on with some command next, a cause ends the reading.
+// A session's progress: a step begins, it goes on with a command next, a cause ends the reading.
 use crate::state::Next;
 use crate::state::Session;
 use crate::state::SessionProgress;
@@ -21,7 +21,7 @@ pub(crate) fn at_step(step: u8) -> SessionProgress
     }
 }
 
-// The same command, to be sent again with another last byte. It is not asked for after a 6C to a command that was sent again: that is cause 16.
+// The same command, to be sent again with another last byte. The last two cases do not arise: a 6C to a command that was sent again is cause 16.
 pub(crate) fn sent_again(next: Next, last: u8) -> Next
     ensures { λ r. ⌜ r ≡ sentAgain next last ⌝ }
 {
@@ -47,7 +47,7 @@ impl Session {
         s
     }
 
-    // The step goes on, n bytes being appended, with such a command next.
+    // The step goes on, n bytes being appended, with this command next.
     pub(crate) fn continued(self, n: usize, next: Next) -> Session
         requires { ⌜ self .progress .filled + n < 2 ^ 64 ⌝ }
         ensures { λ r. ⌜ r ≡ withSessionProgress self (progressContinued (self .progress) n next) ⌝ }
