@@ -1,4 +1,4 @@
--- Commands: how long each is, and what its answer says of the buffer.
+-- Commands: how long each is, its last byte replaced, and what its answer says of the buffer; status words.
 -- Assumes nothing.
 use mathlib.Core.Path.{_≡_, refl, ap}
 use mathlib.Core.Bool.{false, and-eq-true-iff}
@@ -7,8 +7,8 @@ use Prim.Native.Nat.{ℕ, zero, suc, _+_, _-_, _≤_, _<_}
 use native.Mathlib.Omega.{arith}
 use borrow.Author.Tests.{leb-true, not-false, lt-ltb, le-ltb, ne-eqb}
 use lib.Dec.{leb}
-use lib.ListN.{length, set, length-set, length-append}
-use lib.Seq.{set-append-seam}
+use lib.ListN.{length, getD, set, length-set, length-append}
+use lib.Seq.{set-append-seam, getD-set-other}
 use Rattle.common.specs.Lists.{overFront, all, sameBytes}
 use Rattle.card.specs.Object.{objectTag}
 use Rattle.card.specs.Command.{withLast, selectBeside, selectBytes, getDataBytes, getResponseBytes, commandWritten, commandInto, aidLeast, aidMost, aidRefused, selectOf, getDataOf, getResponseOf, statusOf}
@@ -40,11 +40,6 @@ pub get-response-length : (x : ℕ) → length (getResponseBytes x) ≡ 5
 unfolding getResponseBytes
 get-response-length x = refl
 
--- one byte is another
-first-other : (a x : ℕ) → (a ≡ x → ⊥) → sameBytes (a ∷ []) (x ∷ []) ≡ false
-unfolding sameBytes all
-first-other a x f = rw (ne-eqb a x f)
-
 -- ---- the last byte
 
 -- the last byte is replaced, and the bytes before it stay
@@ -53,6 +48,11 @@ unfolding withLast
 with-last c x last =
     let n : length (c ++ (x ∷ [])) - 1 ≡ length c = rw length-append (omega arith) in
     rw n (set-append-seam c x [] last)
+
+-- each byte before the last stays
+pub before-last : (c : List ℕ) (last i : ℕ) → i + 1 < length c → getD (withLast c last) i 0 ≡ getD c i 0
+unfolding withLast
+before-last c last i h = getD-set-other c (length c - 1) i last 0 (λ (e : i ≡ length c - 1). omega arith)
 
 -- the last byte replaced twice
 pub with-last-twice : (c : List ℕ) (a b : ℕ) → withLast (withLast c a) b ≡ withLast c b
@@ -92,6 +92,11 @@ unfolding getResponseBytes withLast
 get-response-last second last = refl
 
 -- ---- status words
+
+-- two bytes that differ are not the same list
+first-other : (a x : ℕ) → (a ≡ x → ⊥) → sameBytes (a ∷ []) (x ∷ []) ≡ false
+unfolding sameBytes all
+first-other a x f = rw (ne-eqb a x f)
 
 -- a status word that is not 90 00 and begins with neither 61 nor 6C is another
 pub status-other : (a b : ℕ) → sameBytes (a ∷ b ∷ []) (0x90 ∷ 0x00 ∷ []) ≡ false → (a ≡ 0x61 → ⊥) → (a ≡ 0x6C → ⊥) → statusOf (a ∷ b ∷ []) ≡ Other

@@ -1,15 +1,8 @@
-// What the modules of this crate do with a slice: one byte of it, a part of it, and a copy into one.
+// What the modules of this crate do with a slice: a part of it, and a copy into one.
 ghost use mathlib.Core.Path.{_≡_};
 ghost use Prim.Native.Nat.{_+_, _≤_};
 ghost use lib.ListN.{length, getD, take, drop};
 ghost use Rattle.common.specs.Lists.{written};
-
-// Byte i, 0 past the end.
-pub(crate) fn byte(s: &[u8], i: usize) -> u8
-    ensures { λ r. ⌜ r ≡ getD (now (s .entry)) i 0 ⌝ }
-{
-    if i < s.len() { s[i] } else { 0 }
-}
 
 // What follows the first `at` bytes.
 pub(crate) fn rest(s: &[u8], at: usize) -> &[u8]

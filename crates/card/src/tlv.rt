@@ -1,5 +1,5 @@
 // TLVs (document 01, section Objects): the header of the TLV at the front of a slice.
-use crate::bytes;
+use common::slice;
 ghost use mathlib.Core.Path.{_≡_};
 ghost use Prim.Native.Nat.{_<_};
 ghost use Rattle.card.specs.Tlv.{endingOf, afterTag, headerOf, onlyOf};
@@ -37,15 +37,15 @@ fn after_tag(s: &[u8], t: usize, tag: usize, nested: bool) -> Header
     requires { ⌜ t < 4 ⌝ }
     ensures { λ r. ⌜ r ≡ afterTag (now (s .entry)) t tag nested ⌝ }
 {
-    let a = bytes::byte(s, t);
+    let a = slice::byte(s, t);
     if a < 0x80 {
         return ending(s, tag, nested, t + 1, a as usize);
     }
-    let b = bytes::byte(s, t + 1);
+    let b = slice::byte(s, t + 1);
     if a == 0x81 {
         return ending(s, tag, nested, t + 2, b as usize);
     }
-    let c = bytes::byte(s, t + 2);
+    let c = slice::byte(s, t + 2);
     if a == 0x82 {
         return ending(s, tag, nested, t + 3, (b as usize) * 256 + (c as usize));
     }
@@ -56,16 +56,16 @@ fn after_tag(s: &[u8], t: usize, tag: usize, nested: bool) -> Header
 pub fn header_of(s: &[u8]) -> Header
     ensures { λ r. ⌜ r ≡ headerOf (now (s .entry)) ⌝ }
 {
-    let a = bytes::byte(s, 0);
+    let a = slice::byte(s, 0);
     let nested = a / 0x20 % 2 == 1;
     if a % 32 != 31 {
         return after_tag(s, 1, a as usize, nested);
     }
-    let b = bytes::byte(s, 1);
+    let b = slice::byte(s, 1);
     if b < 128 {
         return after_tag(s, 2, (a as usize) * 256 + (b as usize), nested);
     }
-    let c = bytes::byte(s, 2);
+    let c = slice::byte(s, 2);
     if c < 128 {
         return after_tag(
             s,
@@ -81,9 +81,9 @@ pub fn header_of(s: &[u8]) -> Header
 pub(crate) fn next_header(s: &[u8]) -> Header
     ensures { λ r. ⌜ r ≡ headerOf (now (s .entry)) ⌝ }
 {
-    let a = bytes::byte(s, 0);
+    let a = slice::byte(s, 0);
     if a % 32 != 31 {
-        let n = bytes::byte(s, 1);
+        let n = slice::byte(s, 1);
         if n < 0x80 {
             return ending(s, a as usize, a / 0x20 % 2 == 1, 2, n as usize);
         }

@@ -149,6 +149,11 @@ written-over d s at =
     (listOf-is (length s) (λ j. getD s (0 + j) 0) s refl (λ i b. ap (λ (j : ℕ). getD s j 0) (zero-add i)))
 
 -- a list with another over its places, or over its front, is as long as it was
+-- no bytes stored change nothing
+pub over-none : (l : List ℕ) (at : ℕ) → overPlaces l at [] ≡ l
+unfolding overPlaces
+over-none l at = let z : at + 0 ≡ at = omega arith in rw (z, append-nil) (take-append-drop at l)
+
 pub length-over : (l s : List ℕ) (at : ℕ) → at + length s ≤ length l → length (overPlaces l at s) ≡ length l
 unfolding overPlaces
 length-over l s at h = simp (length-append, length-take, length-drop) (omega arith)

@@ -46,6 +46,13 @@ pub by-case : {A : Type 0} (P : A → Type 0) (x y : A) (b : Bool) → (b ≡ tr
 by-case P x y true f g = f refl
 by-case P x y false f g = g refl
 
+-- a choice whose second half has a property of false, and whose first has that of x where the test passes, has that of both tests
+pub by-and : {A : Type 0} (P : Bool → A → Type 0) (x b : Bool) (q r : A) → P false r → (b ≡ true → P x q) → P (x && b) (cond b q r)
+by-and P true true q r m f = f refl
+by-and P true false q r m f = m
+by-and P false true q r m f = f refl
+by-and P false false q r m f = m
+
 -- a choice between two that have a property has it
 pub either : {A : Type 0} (P : A → Type 0) (b : Bool) {x y : A} → P x → P y → P (cond b x y)
 either P true p q = p

@@ -1,4 +1,4 @@
-// What all crates do with slices of bytes: whether two are equal, where a byte stands, and bytes stored from a place on.
+// What all crates do with slices of bytes: one byte, whether two are equal, where a byte stands, and bytes stored from a place on.
 ghost use mathlib.Core.Path.{_≡_};
 ghost use mathlib.Core.Bool.{not};
 ghost use Prim.Native.Nat.{_+_, _≤_};
@@ -7,6 +7,13 @@ ghost use lib.ListN.{length, getD, drop};
 ghost use Rattle.bytes.specs.Bytes.{indexOf};
 ghost use Rattle.common.specs.Lists.{all, sameBytes, overPlacesWhere};
 ghost use Rattle.common.specs.SliceCode.{blockSize};
+
+// Byte i, 0 past the end.
+pub fn byte(s: &[u8], i: usize) -> u8
+    ensures { λ r. ⌜ r ≡ getD (now (s .entry)) i 0 ⌝ }
+{
+    if i < s.len() { s[i] } else { 0 }
+}
 
 // All bytes are equal, and there are as many. Every byte is looked at: there is no early exit.
 pub fn same(a: &[u8], b: &[u8]) -> bool

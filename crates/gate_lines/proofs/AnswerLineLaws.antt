@@ -10,10 +10,9 @@ use lib.Dec.{eqb, leb}
 use lib.ListN.{length}
 use Rattle.common.specs.Refusal.{refusalOf}
 use Rattle.card.specs.Date.{realDate}
-use Rattle.card.specs.Command.{selectBytes, getDataBytes, aidRefused, statusOf}
+use Rattle.card.specs.Command.{aidRefused, statusOf}
 use Rattle.common.proofs.ListsLaws.{length-over}
-use Rattle.card.proofs.CommandLaws.{select-length, get-data-length, get-response-length, length-last, aid-most}
-use Rattle.session.specs.Tables.{modeInRange, statusSize, answerMost, kindAt, objectSize, capacity, NextCommand, commandBytes, dataOf, statusBytes, ends}
+use Rattle.session.specs.Tables.{modeInRange, statusSize, answerMost, objectSize, capacity, dataOf, statusBytes, ends}
 use Rattle.session.specs.Condition.{openConditions, nothingToSend, answerConditions, verdictConditions}
 use Rattle.session.specs.Ranges.{outOfRange}
 use Rattle.session.specs.Reading.{Arguments, Reading, begins, withProgress, sending, nextCommand, commandRefused, answerRefused, read, reading}
@@ -24,6 +23,7 @@ use Rattle.common.proofs.TestLaws.{and-left, and-right, clash}
 use Rattle.common.proofs.ConditionLaws.{not-named}
 use Rattle.session.proofs.FigureLaws.{base-fits}
 use Rattle.session.proofs.RuleLaws.{rule-fits}
+use Rattle.session.proofs.SendLaws.{command-length}
 use Rattle.session.proofs.CallLaws.{Fitting, answer-fits}
 use Rattle.session.proofs.RunLaws.{zero-or}
 use Rattle.session.proofs.Invariant.{Invariant}
@@ -36,19 +36,9 @@ use Rattle.gate_lines.specs.declared.state.LineReply.the-variants.{Ok, R
 
 -- ---- the command has room
 
--- a command with an AID that is not too long has at most 22 bytes
-command-most : (mode : ℕ) (aid : List ℕ) (step : ℕ) (next : NextCommand) → aidRefused aid ≡ false → length (commandBytes mode aid step next) ≤ commandRoom
-unfolding commandBytes
-command-most mode aid step NextCommand.ofStep e = by (eqb step 0)
-  where
-    by : (b : Bool) → length (cond b (selectBytes aid) (getDataBytes (kindAt mode step))) ≤ commandRoom
-    by true = omega (arith, select-length aid, aid-most aid e)
-    by false = omega (arith, get-data-length (kindAt mode step))
-command-most mode aid step (NextCommand.getResponse second) e = omega (arith, get-response-length second)
-command-most mode aid step (NextCommand.again command last) e = rw length-last (command-most mode aid step command e)
-
+-- the next command has at most 22 bytes
 next-most : (r : Reading) (m : List ℕ) → Invariant r m → length (nextCommand r) ≤ commandRoom
-next-most r m i = command-most (r .opening .mode) (r .opening .aid) (r .progress .step) (r .progress .next) (not-true (aidRefused (r .opening .aid)) (and-right (modeInRange (r .opening .mode) && realDate (r .opening .date)) (not (aidRefused (r .opening .aid))) (i .opening)))
+next-most r m i = command-length (r .opening .mode) (r .opening .aid) (r .progress .step) (r .progress .next) .1 (not-true (aidRefused (r .opening .aid)) (and-right (modeInRange (r .opening .mode) && realDate (r .opening .date)) (not (aidRefused (r .opening .aid))) (i .opening)))
 
 -- so 6 is never its number
 command-by : (r : Reading) (m : List ℕ) (room : ℕ) → Invariant r m → commandRoom ≤ room

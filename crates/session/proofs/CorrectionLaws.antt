@@ -1,24 +1,26 @@
 -- Cards that correct the length (document 02, request 1), said of lists of calls: what a 6C does, by the answer that was taken before it.
 -- Assumes nothing.
 use mathlib.Core.Path.{_≡_, refl, sym, _∙_}
-use mathlib.Core.Bool.{Bool, true, false, cond, _&&_}
+use mathlib.Core.Bool.{Bool, true, false, cond}
 use mathlib.Core.List.{List, [], _∷_, _++_, append-nil}
-use Prim.Native.Nat.{ℕ, _+_, _-_, _<_}
+use Prim.Native.Nat.{ℕ, _+_, _-_}
 use native.Mathlib.Omega.{arith}
 use borrow.Author.Tests.{le-ltb, ne-eqb}
 use lib.Dec.{eqb}
-use lib.ListN.{length, getD, length-append, take-append-drop}
-use lib.Seq.{take-append-seam, drop-append-seam, getD-set-other}
-use Rattle.common.specs.Lists.{overPlaces, all, sameBytes}
+use lib.ListN.{length, getD, length-append}
+use lib.Seq.{take-append-seam, drop-append-seam}
+use Rattle.common.specs.Lists.{all, sameBytes}
 use Rattle.card.specs.Command.{selectBytes, getDataBytes, getResponseBytes, withLast, statusOf}
 use Rattle.card.specs.declared.command.Status.{Status}
 use Rattle.card.specs.declared.command.Status.the-variants.{Done, More, Again, Other}
-use Rattle.card.proofs.CommandLaws.{select-length, get-data-length, get-response-length, length-last}
+use Rattle.card.proofs.CommandLaws.{before-last, status-other}
 use Rattle.session.specs.Tables.{statusCause, ends, kindAt, capacity, NextCommand, commandBytes, isResponse, isSentAgain, dataOf, statusBytes, ruleCause, joinedCause}
 use Rattle.session.specs.Reading.{Opening, Arguments, Reading, begins, withProgress, nextCommand, sending, commandRefused, answerRefused, verdictRefused, verdictTaken, stopped, continued, goodEnd, judged, appended, causeBy, answerTaken, refusedBy, read, reading, takes}
 use Rattle.session.specs.Operation.{placeOf, causeIn, answerTakenBuffer}
 use Rattle.session.specs.declared.state.Session.{Session}
-use Rattle.common.proofs.TestLaws.{clash, or-true, by-case, either}
+use Rattle.common.proofs.TestLaws.{clash, or-true, by-case, by-and, either}
+use Rattle.common.proofs.ListsLaws.{over-none}
+use Rattle.session.proofs.SendLaws.{command-length}
 use Rattle.session.proofs.RuleLaws.{rule-in-range, joined-in-range}
 use Rattle.session.proofs.CountLaws.{arose-ends, taken-sent, countable-all}
 
@@ -74,21 +76,18 @@ taken-last r bytes status cancelled =
     by-case (LastWas (statusOf status)) _ _ (eqb k 0) (λ _. appended-last (statusOf status) r (r .progress .joined ++ bytes) cancelled)
     (λ z. stopped-last r (statusOf status) (r .progress .joined) k 0 0 (arose-ends k (rule-in-range (statusOf status) (r .progress .next) (length bytes) (length (r .progress .joined)) most) z))
 
--- a call that takes an answer, or none
-by-call : (taken b : Bool) (r q : Reading) (before status : Status) → LastWas before r → (b ≡ true → LastWas (cond taken status before) q) → LastWas (cond (taken && b) status before) (cond b q r)
-by-call true true r q before status m f = f refl
-by-call true false r q before status m f = m
-by-call false true r q before status m f = f refl
-by-call false false r q before status m f = m
+-- the status before the call, or that of the answer that it takes
+abbrev LastOf : Status → Status → Bool → Reading → Type 0
+LastOf before status taken q = LastWas (cond taken status before) q
 
 call-last : (r : Reading) (t : Arguments) (before : Status) → LastWas before r → LastWas (cond (takes r t) (statusIn t) before) (read r t)
 unfolding read
-call-last r (Arguments.command room) before m = by-call false (eqb (commandRefused r room) 0) r (withProgress r (sending (r .progress))) before Done m (λ _. m)
+call-last r (Arguments.command room) before m = by-and (LastOf before Done) false (eqb (commandRefused r room) 0) (withProgress r (sending (r .progress))) r m (λ _. m)
 call-last r (Arguments.answer size bytes cancelled) before m =
-    by-call true (eqb (answerRefused r size (length bytes)) 0) r _ before (statusOf (statusBytes bytes)) m (λ _. taken-last r (dataOf bytes) (statusBytes bytes) cancelled)
-call-last r (Arguments.verdict kind yesNo fascn) before m = by-call false (eqb (verdictRefused r kind yesNo fascn) 0) r (verdictTaken r kind yesNo fascn) before Done m (λ _. m)
-call-last r (Arguments.field size tag) before m = by-call false (eqb (refusedBy r (Arguments.field size tag)) 0) r r before Done m (λ _. m)
-call-last r (Arguments.stamp room) before m = by-call false (eqb (refusedBy r (Arguments.stamp room)) 0) r r before Done m (λ _. m)
+    by-and (LastOf before (statusOf (statusBytes bytes))) true (eqb (answerRefused r size (length bytes)) 0) _ r m (λ _. taken-last r (dataOf bytes) (statusBytes bytes) cancelled)
+call-last r (Arguments.verdict kind yesNo fascn) before m = by-and (LastOf before Done) false (eqb (verdictRefused r kind yesNo fascn) 0) (verdictTaken r kind yesNo fascn) r m (λ _. m)
+call-last r (Arguments.field size tag) before m = by-and (LastOf before Done) false (eqb (refusedBy r (Arguments.field size tag)) 0) r r m (λ _. m)
+call-last r (Arguments.stamp room) before m = by-and (LastOf before Done) false (eqb (refusedBy r (Arguments.stamp room)) 0) r r m (λ _. m)
 
 list-last : (ts : List Arguments) (r : Reading) (before : Status) → LastWas before r → LastWas (lastStatus before r ts) (reading r ts)
 list-last [] r before m = m
@@ -99,21 +98,6 @@ pub after-answer : (o : Opening) (ts : List Arguments) → let r = reading (begi
 after-answer o ts = list-last ts (begins o) Done (λ _. refl)
 
 -- ---- the command that is sent again
-
--- every command has more than four bytes
-long : (mode : ℕ) (aid : List ℕ) (step : ℕ) (c : NextCommand) → 4 < length (commandBytes mode aid step c)
-unfolding commandBytes
-long mode aid step NextCommand.ofStep = by (eqb step 0)
-  where
-    by : (b : Bool) → 4 < length (cond b (selectBytes aid) (getDataBytes (kindAt mode step)))
-    by true = omega (arith, select-length aid)
-    by false = omega (arith, get-data-length (kindAt mode step))
-long mode aid step (NextCommand.getResponse second) = omega (arith, get-response-length second)
-long mode aid step (NextCommand.again c last) = rw length-last (long mode aid step c)
-
-second-byte : (c : List ℕ) (last : ℕ) → 4 < length c → getD (withLast c last) 1 0 ≡ getD c 1 0
-unfolding withLast
-second-byte c last h = getD-set-other c (length c - 1) 1 last 0 (λ (e : 1 ≡ length c - 1). omega arith)
 
 -- "the command was GET RESPONSE" (rule 2), said of its bytes: the second one is C0, with whatever last byte it is sent
 pub response-bytes : (mode : ℕ) (aid : List ℕ) (step : ℕ) (c : NextCommand) → isResponse c ≡ eqb (getD (commandBytes mode aid step c) 1 0) 0xC0
@@ -127,7 +111,7 @@ response-bytes mode aid step (NextCommand.getResponse second) = one second
   where
     one : (x : ℕ) → true ≡ eqb (getD (getResponseBytes x) 1 0) 0xC0
     one x = refl
-response-bytes mode aid step (NextCommand.again c last) = rw (second-byte (commandBytes mode aid step c) last (long mode aid step c)) (response-bytes mode aid step c)
+response-bytes mode aid step (NextCommand.again c last) = let n = command-length mode aid step c .0 in rw (before-last (commandBytes mode aid step c) last 1 (omega (arith, n))) (response-bytes mode aid step c)
 
 corrected-command : (r : Reading) (joined : List ℕ) (last : ℕ) → nextCommand (withProgress r (continued (r .progress) joined (NextCommand.again (r .progress .next) last))) ≡ withLast (nextCommand r) last
 unfolding commandBytes
@@ -172,21 +156,29 @@ module _ (o : Opening) (ts : List Arguments) (size last : ℕ) (cancelled : List
   unfolding answerTaken ruleCause statusOf sameBytes all
   stops-data bytes f = simp (ne-eqb _ _ f, or-true)
 
+  -- an answer is its data and its status
+  taken-as : (xs : List ℕ) (a b : ℕ) → let bytes = xs ++ (a ∷ b ∷ []) in answerRefused r size (length bytes) ≡ 0 → read r (Arguments.answer size bytes cancelled) ≡ answerTaken r xs (a ∷ b ∷ []) cancelled
+  unfolding read
+  taken-as xs a b e =
+      let n : length (xs ++ (a ∷ b ∷ [])) - 2 ≡ length xs = rw length-append (omega arith) in
+      rw (e, n, take-append-seam, drop-append-seam)
+
   -- "and so is a 6C with data"
   pub data-6C : (xs : List ℕ) → (length xs ≡ 0 → ⊥) → let bytes = xs ++ (0x6C ∷ last ∷ []) in answerRefused r size (length bytes) ≡ 0
       → read r (Arguments.answer size bytes cancelled) ≡ withProgress r (stopped (r .progress) (r .progress .joined) statusCause 0x6C last)
-  unfolding read
-  data-6C xs f e =
-      let n : length (xs ++ (0x6C ∷ last ∷ [])) - 2 ≡ length xs = rw length-append (omega arith) in
-      rw (e, n, take-append-seam, drop-append-seam) (stops-data xs f)
+  data-6C xs f e = taken-as xs 0x6C last e ∙ stops-data xs f
 
--- nothing stored changes nothing
-none-over : (l : List ℕ) (at : ℕ) → overPlaces l at [] ≡ l
-unfolding overPlaces
-none-over l at = let z : at + 0 ≡ at = omega arith in rw (z, append-nil) (take-append-drop at l)
+  stops-other : (xs : List ℕ) (a b : ℕ) → statusOf (a ∷ b ∷ []) ≡ Other → answerTaken r xs (a ∷ b ∷ []) cancelled ≡ withProgress r (stopped (r .progress) (r .progress .joined) statusCause a b)
+  unfolding answerTaken ruleCause
+  stops-other xs a b e = rw e
+
+  -- "Status neither 90 00 nor 61 with any second byte: cause 16, data dropped", of every status word that does not begin with 6C either
+  pub other-status : (xs : List ℕ) (a b : ℕ) → sameBytes (a ∷ b ∷ []) (0x90 ∷ 0x00 ∷ []) ≡ false → (a ≡ 0x61 → ⊥) → (a ≡ 0x6C → ⊥) → let bytes = xs ++ (a ∷ b ∷ []) in answerRefused r size (length bytes) ≡ 0
+      → read r (Arguments.answer size bytes cancelled) ≡ withProgress r (stopped (r .progress) (r .progress .joined) statusCause a b)
+  other-status xs a b p f g e = taken-as xs a b e ∙ stops-other xs a b (status-other a b p f g)
 
 -- an answer without data, such as a first 6C, leaves the object buffer as it was
 pub no-data-stays : (s : Session) (object status : List ℕ) → answerTakenBuffer s object [] status ≡ object
 unfolding answerTakenBuffer
 no-data-stays s object status =
-    either (λ (m : List ℕ). m ≡ object) (eqb (causeIn s (statusOf status) 0) 0) (none-over object (placeOf (s .progress))) refl
+    either (λ (m : List ℕ). m ≡ object) (eqb (causeIn s (statusOf status) 0) 0) (over-none object (placeOf (s .progress))) refl

@@ -15,7 +15,7 @@ use Rattle.session.specs.Tables.{statusCause, emptyCause, fullCause, end
 use Rattle.session.specs.Ranges.{causeInRange}
 use Rattle.session.specs.Condition.{commandConditions, answerConditions}
 use Rattle.session.specs.Reading.{Opening, Arguments, Progress, Reading, begins, atStep, nextCommand, commandRefused, sending, answerRefused, stopped, continued, step1End, step2End, goodEnd, judged, appended, causeBy, answerTaken, verdictRefused, verdictTaken, refusedBy, read, reading, takes, answersIn, answers}
-use Rattle.common.proofs.TestLaws.{clash, or-left, or-right, by-case, either}
+use Rattle.common.proofs.TestLaws.{clash, or-left, or-right, by-case, by-and, either}
 use Rattle.common.proofs.ConditionLaws.{none-fit}
 use Rattle.session.proofs.LeftLaws.{left, left-most, Onward, left-falls}
 use Rattle.session.proofs.RuleLaws.{rule-in-range, rule-fits, rule-again, joined-in-range}
@@ -53,13 +53,12 @@ record Spends (mode : ℕ) (b : Bool) (c d : Progress) : Type 0 where
 spends-none : (mode : ℕ) (c : Progress) → Countable mode c → Spends mode false c c
 spends-none mode c h = record { counts = h; falls = λ k. omega arith }
 
--- a refused call changes nothing
-by-call : (x : Bool) (r q : Reading) (b : Bool) → Countable (r .opening .mode) (r .progress) → (b ≡ true → Spends (r .opening .mode) x (r .progress) (q .progress))
-    → Spends (r .opening .mode) (x && b) (r .progress) ((cond b q r) .progress)
-by-call true r q true h f = f refl
-by-call false r q true h f = f refl
-by-call true r q false h f = spends-none (r .opening .mode) (r .progress) h
-by-call false r q false h f = spends-none (r .opening .mode) (r .progress) h
+-- a call on a reading: a refused one changes nothing
+abbrev SpendsOn : Reading → Bool → Reading → Type 0
+SpendsOn r taken q = Spends (r .opening .mode) taken (r .progress) (q .progress)
+
+by-call : (x : Bool) (r q : Reading) (b : Bool) → Countable (r .opening .mode) (r .progress) → (b ≡ true → SpendsOn r x q) → SpendsOn r (x && b) (cond b q r)
+by-call x r q b h f = by-and (SpendsOn r) x b q r (spends-none (r .opening .mode) (r .progress) h) f
 
 -- ---- a command
 
@@ -152,15 +151,11 @@ module _ (r : Reading) (h : Countable (r .opening .mode) (r .progress)) (below :
         falls = λ n. left-falls (r .opening .mode) n _ _ _ _ (Onward.same refl (rw (no-cause, e) (omega (arith, grows))) (omega (arith, most)));
       }
 
-  -- an answer that is taken leaves such a reading
-  abbrev Leaves : Reading → Type 0
-  Leaves q = Spends (r .opening .mode) true (r .progress) (q .progress)
-
   ends-well : (joined cancelled : List ℕ) → Spends (r .opening .mode) true (r .progress) (goodEnd r joined cancelled .progress)
   unfolding goodEnd
   ends-well joined cancelled =
-      by-case Leaves _ _ (eqb (r .progress .step) 0) (λ e. moves 1 (let z = eqb-true (r .progress .step) 0 e in omega arith) (omega arith))
-      (λ _. by-case Leaves _ _ (eqb (r .progress .step) 1)
+      by-case (SpendsOn r true) _ _ (eqb (r .progress .step) 0) (λ e. moves 1 (let z = eqb-true (r .progress .step) 0 e in omega arith) (omega arith))
+      (λ _. by-case (SpendsOn r true) _ _ (eqb (r .progress .step) 1)
       (λ e. let z = eqb-true (r .progress .step) 1 e in let t = either (λ (n : ℕ). (1 < n) × (n ≤ 3)) (hasStep2 (r .opening .mode)) {x = 2} {y = 3} (omega arith, omega arith) (omega arith, omega arith) in moves _ (rw z (t .0)) (t .1))
       (λ _. moves 3 below (omega arith)))
 
@@ -169,7 +164,7 @@ module _ (r : Reading) (h : Countable (r .opening .mode) (r .progress)) (below :
   unfolding judged
   judges joined cancelled l m =
       let k = joinedCause (r .opening .mode) (r .progress .step) joined in
-      by-case Leaves _ _ (eqb k 0) (λ _. ends-well joined cancelled) (λ e. stops joined k 0 0 l m (joined-in-range (r .opening .mode) (r .progress .step) joined) e)
+      by-case (SpendsOn r true) _ _ (eqb k 0) (λ _. ends-well joined cancelled) (λ e. stops joined k 0 0 l m (joined-in-range (r .opening .mode) (r .progress .step) joined) e)
 
   joins : (status : Status) (bytes cancelled : List ℕ) → causeBy (r .progress) (capacity (r .opening .mode) (r .progress .step)) status bytes ≡ 0
       → Spends (r .opening .mode) true (r .progress) (judged r (r .progress .joined ++ bytes) cancelled .progress)
@@ -195,7 +190,7 @@ module _ (r : Reading) (h : Countable (r .opening .mode) (r .progress)) (below :
   unfolding answerTaken
   answers-one bytes status cancelled =
       let k = causeBy (r .progress) (capacity (r .opening .mode) (r .progress .step)) (statusOf status) bytes in
-      by-case Leaves _ _ (eqb k 0) (λ e. appends (statusOf status) bytes cancelled (eqb-true k 0 e))
+      by-case (SpendsOn r true) _ _ (eqb k 0) (λ e. appends (statusOf status) bytes cancelled (eqb-true k 0 e))
       (λ e. stops (r .progress .joined) k _ _ (omega arith) (h .small) (rule-in-range (statusOf status) (r .progress .next) (length bytes) (length (r .progress .joined)) (capacity (r .opening .mode) (r .progress .step))) e)
 
 -- an answer is taken only where a command is outstanding

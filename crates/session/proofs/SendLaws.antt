@@ -3,19 +3,19 @@
 use mathlib.Core.Path.{_≡_, refl, ap}
 use mathlib.Core.Bool.{Bool, true, false, cond}
 use mathlib.Core.List.{List}
-use Prim.Native.Nat.{ℕ}
+use Prim.Native.Nat.{ℕ, _≤_, _<_}
 use native.Mathlib.Omega.{arith}
 use borrow.Author.Tests.{le-leb, ne-eqb}
 use lib.Dec.{eqb}
 use lib.ListN.{length, take}
 use lib.Seq.{length-take-le}
 use Rattle.common.specs.Lists.{overFront}
-use Rattle.card.specs.Command.{aidLeast, aidMost, aidRefused, tooShort, selectBytes, getDataBytes, withLast, commandWritten, commandInto, selectOf, getDataOf, getResponseOf, commandNumber, commandAnswer}
-use Rattle.card.proofs.CommandLaws.{select-first, get-data-first, get-response-last}
+use Rattle.card.specs.Command.{aidLeast, aidMost, aidRefused, commandMost, tooShort, selectBytes, getDataBytes, withLast, commandWritten, commandInto, selectOf, getDataOf, getResponseOf, commandNumber, commandAnswer}
+use Rattle.card.proofs.CommandLaws.{select-length, get-data-length, get-response-length, length-last, aid-most, select-first, get-data-first, get-response-last}
 use Rattle.card.specs.declared.object.Kind.{Kind}
 use Rattle.card.specs.declared.command.CommandAnswer.{CommandAnswer}
 use Rattle.card.specs.declared.command.CommandAnswer.the-variants.{Written, WrongAid, ShortBuffer}
-use Rattle.session.specs.Tables.{kindAt, commandBytes}
+use Rattle.session.specs.Tables.{kindAt, NextCommand, commandBytes}
 use Rattle.session.specs.Condition.{nothingToSend}
 use Rattle.session.specs.Ranges.{inRange, outOfRange}
 use Rattle.session.specs.Operation.{initialIn, commandIn, commandRefusal, commandOf, commandBuffer, progressSending, withSessionProgress}
@@ -24,6 +24,17 @@ use Rattle.session.specs.declared.state.Next.the-variants.{Initial, GetR
 use Rattle.session.proofs.RangesLaws.{aid-in-range}
 
 -- ---- the command
+
+-- a command has more than four bytes, and with an AID that is not refused at most 22
+pub command-length : (mode : ℕ) (aid : List ℕ) (step : ℕ) (c : NextCommand) → (4 < length (commandBytes mode aid step c)) × (aidRefused aid ≡ false → length (commandBytes mode aid step c) ≤ commandMost)
+unfolding commandBytes
+command-length mode aid step NextCommand.ofStep = by (eqb step 0)
+  where
+    by : (b : Bool) → (4 < length (cond b (selectBytes aid) (getDataBytes (kindAt mode step)))) × (aidRefused aid ≡ false → length (cond b (selectBytes aid) (getDataBytes (kindAt mode step))) ≤ commandMost)
+    by true = (omega (arith, select-length aid), λ e. omega (arith, select-length aid, aid-most aid e))
+    by false = (omega (arith, get-data-length (kindAt mode step)), λ e. omega (arith, get-data-length (kindAt mode step)))
+command-length mode aid step (NextCommand.getResponse second) = (omega (arith, get-response-length second), λ e. omega (arith, get-response-length second))
+command-length mode aid step (NextCommand.again c last) = rw length-last (command-length mode aid step c)
 
 -- the AID of a session in range is not refused
 aid-fits : (s : Session) → inRange s ≡ true → length (s .opening .aid) ≡ aidMost → aidRefused (take (s .opening .«aid_len») (s .opening .aid)) ≡ false

@@ -105,14 +105,14 @@ sentAgain (InitialAgain former) last = InitialAgain last
 sentAgain (GetResponseAgain former) last = GetResponseAgain last
 
 -- The bytes of a command in a session, of the step's own, and of the next one.
-abbrev pub bytesIn : Session → NextCommand → List ℕ
-bytesIn s command = commandBytes (s .opening .mode) (take (s .opening .«aid_len») (s .opening .aid)) (s .progress .step) command
+abbrev pub commandBytesIn : Session → NextCommand → List ℕ
+commandBytesIn s command = commandBytes (s .opening .mode) (take (s .opening .«aid_len») (s .opening .aid)) (s .progress .step) command
 
 unfoldable pub initialIn : Session → List ℕ
-initialIn s = bytesIn s NextCommand.ofStep
+initialIn s = commandBytesIn s NextCommand.ofStep
 
 unfoldable pub commandIn : Session → List ℕ
-commandIn s = bytesIn s (nextOf (s .progress .next))
+commandIn s = commandBytesIn s (nextOf (s .progress .next))
 
 unfoldable pub commandRefusal : Session → ℕ → ℕ
 commandRefusal s room =

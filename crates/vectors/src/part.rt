@@ -1,7 +1,7 @@
-// The first bytes of a slice, and those that follow them, however many there are; the first byte.
+// The first bytes of a slice, and those that follow them, however many there are.
 use common::number;
 ghost use mathlib.Core.Path.{_≡_};
-ghost use lib.ListN.{getD, take, drop};
+ghost use lib.ListN.{take, drop};
 
 // The first n bytes, or all.
 pub(crate) fn front(s: &[u8], n: usize) -> &[u8]
@@ -17,14 +17,4 @@ pub(crate) fn after(s: &[u8], n: usize) -> &[u8]
 {
     let from = number::least(s.len(), n);
     &s[from..]
-}
-
-// The first byte, 00 where there is none.
-pub(crate) fn first(s: &[u8]) -> u8
-    ensures { λ r. ⌜ r ≡ getD (now (s .entry)) 0 0 ⌝ }
-{
-    if 0 < s.len() {
-        return s[0];
-    }
-    0
 }

@@ -6,6 +6,7 @@ use card::command::CommandAnswer;
 use card::command::Status;
 use card::object::Kind;
 use common::number;
+use common::slice;
 ghost use mathlib.Core.Path.{_≡_};
 ghost use mathlib.Core.List.{[], _∷_, _++_};
 ghost use Rattle.card.specs.Command.{commandAnswer, selectOf, getDataOf, getResponseOf};
@@ -87,7 +88,7 @@ pub(crate) fn add_select(out: &mut [u8], at: usize, last: u8, room: usize, s: &[
 pub(crate) fn add_select_again(out: &mut [u8], at: usize, room: usize, s: &[u8]) -> usize
     ensures { λ r. ⌜ Added (now (out .entry)) at (now (out .exit)) r (selectAgainText room (now (s .entry))) ⌝ }
 {
-    add_select(out, at, part::first(s), room, part::after(s, 1))
+    add_select(out, at, slice::byte(s, 0), room, part::after(s, 1))
 }
 
 // What get_data says, with so much room; the line spells no bytes, or the last byte.
@@ -97,7 +98,7 @@ pub(crate) fn add_get_data(out: &mut [u8], at: usize, kind: Kind, room: usize, s
     if 1 < s.len() {
         return append::add_no_vector(out, at);
     }
-    let last = part::first(s);
+    let last = slice::byte(s, 0);
     let mut spare = [0xFFu8; SPARE];
     let n = number::least(SPARE, room);
     get_data_into(out, at, kind, last, &mut spare[..n])

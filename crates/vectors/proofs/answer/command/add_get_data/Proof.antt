@@ -28,11 +28,11 @@ unfolding getDataText spare
 returns-2 c =
     let at-get-data-into = c .before .before .before in
     let at-least = at-get-data-into .before .before .before in
-    let at-first = at-least .before in
-    let test = at-first .before in
+    let at-byte = at-least .before in
+    let test = at-byte .before in
     let start = test .before .before .before in
     let room = ap (λ (l : List ℕ). commandText (getDataOf (start .args .kind) (getD (start .args .s .now) 0 0) l)) (take-most _ _ (replicate 24 255) (at-least .least .ensures .0)) in
-    when _ (le-leb _ _ (test .if1 .left)) (same-text room (rw (at-first .first .ensures) at (at-get-data-into .get-data-into .ensures .0)))
+    when _ (le-leb _ _ (test .if1 .left)) (same-text room (rw (at-byte .byte .ensures) at (at-get-data-into .get-data-into .ensures .0)))
 
 pub add-get-data-spec : {M : Type 1} → statement M
 add-get-data-spec =

@@ -6,7 +6,7 @@ use Rattle.vectors.proofs.answer.command.add_select_again.Tie as tie
 
 returns : tie.Need-returns
 unfolding selectAgainText
-returns c = rw (← c .before .before .before .before .first .ensures, ← c .before .before .before .after .ensures) (c .before .before .add-select .ensures)
+returns c = rw (← c .before .before .before .before .byte .ensures, ← c .before .before .before .after .ensures) (c .before .before .add-select .ensures)
 
 pub add-select-again-spec : {M : Type 1} → statement M
 add-select-again-spec =

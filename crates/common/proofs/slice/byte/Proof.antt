@@ -1,9 +1,9 @@
--- `card::bytes::byte` meets its contract: past the end `getD` gives its default. Assumes nothing.
+-- `common::slice::byte` meets its contract: past the end `getD` gives its default. Assumes nothing.
 use mathlib.Core.Path.{sym}
 use borrow.Author.Needs.{needs}
 use lib.ListN.{List·getD-eq-default}
-use Rattle.card.proofs.bytes.byte.Statement.{statement}
-use Rattle.card.proofs.bytes.byte.Tie as tie
+use Rattle.common.proofs.slice.byte.Statement.{statement}
+use Rattle.common.proofs.slice.byte.Tie as tie
 
 returns-2 : tie.Need-returns-2
 returns-2 c = sym (List·getD-eq-default (c .before .args .s .now) 0 (c .if1 .left))
