@@ -1,4 +1,4 @@
--- Cards that correct the length (document 02, request 1), said of lists of calls: what a 6C does, by the answer that was taken before it.
+-- Cards that correct the length (document 02, request 1), said of lists of calls: what a 6C does, by the answer that was taken before it, and what any other status word does.
 -- Assumes nothing.
 use mathlib.Core.Path.{_≡_, refl, sym, _∙_}
 use mathlib.Core.Bool.{Bool, true, false, cond}

@@ -49,7 +49,7 @@ pub mod GrantLaws
 pub mod LeftLaws
 -- CountLaws: how many answers are taken
 pub mod CountLaws
--- CorrectionLaws: what a 6C does, by the answer taken before
+-- CorrectionLaws: what a 6C does, by the answer taken before, and any other status word
 pub mod CorrectionLaws
 -- RunLaws: every call, and every list of calls
 pub mod RunLaws
