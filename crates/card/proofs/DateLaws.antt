@@ -4,36 +4,22 @@ use mathlib.Core.Path.{_≡_, refl, sym, ap}
 use mathlib.Core.Bool.{Bool, true, false, cond, _&&_, and-eq-true-iff}
 use mathlib.Core.List.{List}
 use mathlib.Core.Logic.{⊎-elim}
-use Prim.Native.Nat.{ℕ, zero, suc, _+_, _*_, _/_, _%_, _^_, _≤_, _<_}
-use native.Mathlib.Nat.{le-refl, le-trans, le-of-suc-le-suc, eq-or-lt-of-le, pow-suc, pow-le-pow-right, div-div-eq-div-mul, mod-lt}
+use Prim.Native.Nat.{ℕ, zero, suc, _+_, _*_, _/_, _%_, _≤_, _<_}
+use native.Mathlib.Nat.{le-refl, le-trans, le-of-suc-le-suc, eq-or-lt-of-le, div-div-eq-div-mul, mod-lt}
 use native.Mathlib.Omega.{arith}
 use borrow.Author.Tests.{eq-eqb, ne-eqb, leb-true, ltb-true, ltb-false}
 use lib.Dec.{eqb, leb, ltb, lit<}
-use lib.ListN.{length, getD}
-use Rattle.common.specs.Lists.{all, number}
-use Rattle.card.specs.Date.{leapYear, daysIn, realDate, isDigitAt, spelled, goodDate, dateOf, daysToYear, daysToMonth, dayOf}
+use lib.ListN.{length}
+use Rattle.common.specs.Lists.{all}
+use Rattle.common.specs.Decimal.{isDigitAt, spelled}
+use Rattle.card.specs.Date.{leapYear, daysIn, realDate, goodDate, dateOf, daysToYear, daysToMonth, dayOf}
 
 -- ---- what the loop of `read` keeps
 
--- digits below 16, as they may be before they are tested, stay below 2 * 10 ^ n
-number-most : (f : ℕ → ℕ) → ((i : ℕ) → f i < 16) → (n : ℕ) → number 10 n f + 2 ≤ 2 * 10 ^ n
-unfolding number
-number-most f h zero = omega arith
-number-most f h (suc n) = rw pow-suc (omega (arith, number-most f h n, h n))
-
--- before each of eight digits there is room for it in 32 bits
-pub room : (s : List ℕ) (i : ℕ) {n : ℕ} → i < 8 → n ≡ number 10 i (λ j. getD s j 0 % 16) → n < 2 * 10 ^ 7
-room s i l e =
-    omega (
-      arith,
-      number-most (λ j. getD s j 0 % 16) (λ j. omega arith) i,
-      pow-le-pow-right {n = 10} (lit< tt) {i = i} {j = 7} (le-of-suc-le-suc l),
-    )
-
 -- what was read of eight bytes decides
-pub date-is : (s : List ℕ) {i n : ℕ} {ok r : Bool} → length s ≡ 8 → i ≡ 8 → n ≡ number 10 i (λ j. getD s j 0 % 16) → ok ≡ all i (isDigitAt s) → r ≡ realDate n
+pub date-is : (s : List ℕ) {i n : ℕ} {ok r : Bool} → length s ≡ 8 → i ≡ 8 → n ≡ spelled i s → ok ≡ all i (isDigitAt s) → r ≡ realDate n
     → dateOf s ≡ cond (ok && r) (0, n) (22, 0)
-unfolding dateOf goodDate spelled
+unfolding dateOf goodDate
 date-is s el ei en eo er = rw (er, eo, en, ei, eq-eqb _ _ el)
 
 -- another number of bytes is no date
@@ -44,14 +30,14 @@ not-eight s h = rw (ne-eqb _ _ h)
 -- ---- an accepted date is a real one
 
 -- a good date is accepted, with the number that it spells
-pub date-number : (s : List ℕ) → goodDate s ≡ true → dateOf s ≡ (0, spelled s)
+pub date-number : (s : List ℕ) → goodDate s ≡ true → dateOf s ≡ (0, spelled 8 s)
 unfolding dateOf
 date-number s p = rw p
 
 -- its number is a real date
-good-real : (s : List ℕ) → goodDate s ≡ true → realDate (spelled s) ≡ true
+good-real : (s : List ℕ) → goodDate s ≡ true → realDate (spelled 8 s) ≡ true
 unfolding goodDate
-good-real s p = and-eq-true-iff (eqb (length s) 8 && all 8 (isDigitAt s)) (realDate (spelled s)) .0 p .1
+good-real s p = and-eq-true-iff (eqb (length s) 8 && all 8 (isDigitAt s)) (realDate (spelled 8 s)) .0 p .1
 
 -- an accepted date is a real one: cause 22 is not 0
 pub date-real : (s : List ℕ) → dateOf s .0 ≡ 0 → realDate (dateOf s .1) ≡ true

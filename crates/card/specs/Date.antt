@@ -4,8 +4,9 @@ use mathlib.Core.Bool.{Bool, cond, not, _&&_, _||_}
 use mathlib.Core.List.{List}
 use Prim.Native.Nat.{ℕ, zero, suc, _+_, _/_, _%_}
 use lib.Dec.{eqb, leb}
-use lib.ListN.{length, getD}
-use Rattle.common.specs.Lists.{all, number}
+use lib.ListN.{length}
+use Rattle.common.specs.Lists.{all}
+use Rattle.common.specs.Decimal.{isDigitAt, spelled}
 use Rattle.card.specs.declared.date.Date.{Date}
 use Rattle.card.specs.declared.date.Date.the-variants.{Real, Unreal}
 
@@ -33,17 +34,9 @@ realDate n =
 abbrev pub dateDigits : ℕ
 dateDigits = 8
 
--- Byte i of s is an ASCII digit, 30 to 39.
-unfoldable pub isDigitAt : List ℕ → ℕ → Bool
-isDigitAt s i = leb 0x30 (getD s i 0) && leb (getD s i 0) 0x39
-
--- The number that eight ASCII digits spell: the value of each is its low four bits.
-unfoldable pub spelled : List ℕ → ℕ
-spelled s = number 10 dateDigits (λ i. getD s i 0 % 16)
-
 -- The bytes s are a real date.
 unfoldable pub goodDate : List ℕ → Bool
-goodDate s = eqb (length s) dateDigits && all dateDigits (isDigitAt s) && realDate (spelled s)
+goodDate s = eqb (length s) dateDigits && all dateDigits (isDigitAt s) && realDate (spelled dateDigits s)
 
 -- "date ill-formed, 22"
 abbrev pub illFormedDate : ℕ
@@ -51,7 +44,7 @@ illFormedDate = 22
 
 -- Cause 0 and the number that they spell, or that cause and no number (0).
 unfoldable pub dateOf : List ℕ → ℕ × ℕ
-dateOf s = cond (goodDate s) (0, spelled s) (illFormedDate, 0)
+dateOf s = cond (goodDate s) (0, spelled dateDigits s) (illFormedDate, 0)
 
 -- The answer of the code: document 01's cause of each case, and the number beside it.
 abbrev pub dateAnswer : Date → ℕ × ℕ

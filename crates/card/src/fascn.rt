@@ -1,4 +1,4 @@
-// The FASC-N of a card: 25 bytes unpacked to 32 digits, packed from them, and compared (document 01, section FASC-N).
+// The FASC-N of a card: 25 bytes unpacked to 32 digits, packed from them, and compared; and its key, which is looked up in a list of keys (document 01, section FASC-N).
 mod characters;
 pub mod counts;
 mod order;
@@ -12,7 +12,7 @@ ghost use mathlib.Core.Path.{_≡_};
 ghost use mathlib.Core.Bool.{not};
 ghost use mathlib.Core.List.{[], _∷_};
 ghost use lib.Dec.{eqb};
-ghost use Rattle.common.specs.Lists.{sameBytes};
+ghost use Rattle.common.specs.Lists.{isIn, sameBytes};
 ghost use Rattle.common.specs.Refusal.{refusalOf};
 ghost use Rattle.card.specs.Fascn.{unpackNumber, packNumber, unpacked, packed, unpackAnswer, unpackOf, packOf, keyOf};
 
@@ -77,6 +77,20 @@ pub struct Packed {
 
 // Document 01's key of a card: its first 16 digits as one whole number. A type of its own, so that no other number is taken for one.
 pub struct Key(pub u64);
+
+impl Key {
+    // Whether the key stands anywhere in the list. Every place is looked at: there is no early exit.
+    pub fn listed(self, cancelled: &[u64]) -> bool
+        ensures { λ r. ⌜ r ≡ isIn (self .0) (now (cancelled .entry)) ⌝ }
+    {
+        let wanted = self.0;
+        let mut absent = true;
+        for i in 0..cancelled.len() {
+            absent = absent & (wanted != cancelled[i]);
+        }
+        !absent
+    }
+}
 
 // The answer for 25 bytes: the tests on their characters in document 01's order, and the digits where all are passed.
 fn answer_for(odd: bool, placed: bool, check: u8, expected: u8, digits: [u8; DIGITS]) -> Unpacked

@@ -1,9 +1,17 @@
 -- The laws of this crate's definitions.
--- PassingLaws: how many tests pass before the first that does not
 -- LineLaws: a line and its key
 -- LinesLaws: lines of a text, and the text of keys
 -- ListTextLaws: what is written is read back, what is read is written back, and what is found
-pub mod PassingLaws
+-- CancelledLaws: the list as text and the list in which a key is looked up
+-- CinLaws: the number on the back of a card
+-- VisualTextLaws: what is written as lines of digits is read as those numbers, and a text that is read is such lines
+-- VisualLaws: what is answered
+-- VisualCodeLaws: how the code goes about it: the line that a text begins with, and a pass over the lines
 pub mod LineLaws
 pub mod LinesLaws
 pub mod ListTextLaws
+pub mod CancelledLaws
+pub mod CinLaws
+pub mod VisualTextLaws
+pub mod VisualLaws
+pub mod VisualCodeLaws

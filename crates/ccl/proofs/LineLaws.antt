@@ -4,21 +4,24 @@ use mathlib.Core.Path.{_≡_, refl, sym, ap, _∙_}
 use mathlib.Core.Bool.{Bool, true, false, cond, _&&_, and-eq-true-iff, and-true}
 use mathlib.Core.List.{List, [], _∷_, _++_}
 use mathlib.Core.Logic.{⊎-elim}
-use Prim.Native.Nat.{ℕ, suc, _+_, _-_, _/_, _%_, _^_, _≤_, _<_}
+use Prim.Native.Nat.{ℕ, suc, _+_, _-_, _≤_, _<_}
 use native.Mathlib.Nat.{mod-eq-of-lt, le-refl, eq-or-lt-of-le}
 use native.Mathlib.Numerals.{add-one}
 use native.Mathlib.Omega.{arith}
 use borrow.Author.Tests.{eqb-true, eqb-false, ltb-true, leb-true, le-leb, eq-eqb, ne-eqb}
-use lib.Dec.{eqb, leb, ltb, lit<}
+use lib.Dec.{eqb, ltb}
 use lib.ListN.{length, getD, take, length-append, List·getD-append}
 use lib.Seq.{getD-at, take-at}
 use Rattle.common.specs.Lists.{listOf, sliceOf, all}
 use Rattle.card.specs.Fascn.{decimalAt, keyOf}
-use Rattle.common.proofs.ListsLaws.{all-at, all-ext, getD-listOf, listOf-is, listOf-ext}
-use Rattle.common.proofs.NumberLaws.{number-ext, number-lt, number-digit, number-mod}
+use Rattle.common.proofs.ListsLaws.{all-at, all-of, all-ext, length-listOf, getD-listOf, listOf-is, listOf-ext}
+use Rattle.common.specs.Decimal.{isDigitAt, spelled, digitOf, digitsOf}
+use Rattle.common.proofs.TestLaws.{and-both}
+use Rattle.common.proofs.NumberLaws.{number-digit}
+use Rattle.common.proofs.DecimalLaws.{digit-least, digit-most, spelled-digits, spelled-small, digits-spelled}
 use Rattle.text.specs.Form.{between, betweenAt}
 use Rattle.text.proofs.FormLaws.{between-at, between-mark}
-use Rattle.ccl.specs.Line.{keyLimit, digitOf, cardOpens, space, between-groups, closes, cardText, lineOf, goodLine, goodCard, lineDigits, keySpelled, lineKey}
+use Rattle.ccl.specs.Line.{keyLimit, cardOpens, space, between-groups, closes, cardText, lineOf, goodLine, goodCard, lineDigits, lineKey}
 
 -- ---- lengths
 
@@ -39,22 +42,14 @@ low i = getD (lineOf 0) i 0
 abbrev high : ℕ → ℕ
 high i = getD (lineOf 9999999999999999) i 0
 
-digit-least : (key k : ℕ) → leb 48 (digitOf key k) ≡ true
-unfolding digitOf
-digit-least key k = le-leb 48 (digitOf key k) (omega arith)
-
-digit-most : (key k : ℕ) → leb (digitOf key k) 57 ≡ true
-unfolding digitOf
-digit-most key k = le-leb (digitOf key k) 57 (omega arith)
-
 -- the line of a key is good, whatever the key is
 pub line-good : (key : ℕ) → goodLine (lineOf key) ≡ true
 unfolding goodLine between betweenAt lineOf cardText listOf digitOf all
-line-good key = simp (digit-least key, digit-most key)
+line-good key = simp (digit-least 16 key, digit-most 16 key)
 
 -- its digits are those of the key
-digits-line : (key : ℕ) → lineDigits (lineOf key) ≡ listOf 16 (digitOf key)
-unfolding lineDigits sliceOf lineOf cardText listOf
+digits-line : (key : ℕ) → lineDigits (lineOf key) ≡ digitsOf 16 key
+unfolding lineDigits sliceOf lineOf cardText digitsOf listOf
 digits-line key = refl
 
 -- every byte before the 0A is higher
@@ -64,17 +59,8 @@ above = refl
 
 -- "what is written is read back"
 pub key-line : (key : ℕ) → key < keyLimit → lineKey (lineOf key) ≡ key
-unfolding lineKey keySpelled digitOf
-key-line key h =
-    rw (digits-line key) (number-ext 10 16 digit ∙ number-mod 10 16 key (lit< tt) ∙ mod-eq-of-lt h)
-  where
-    digit : (i : ℕ) → i < 16 → getD (listOf 16 (digitOf key)) i 0 % 16 ≡ key / 10 ^ (16 - suc i) % 10
-    digit i l =
-        let e : 15 - i ≡ 16 - suc i = omega arith in
-        rw (getD-listOf 16 (digitOf key) i l, e) (value (key / 10 ^ (16 - suc i)))
-      where
-        value : (x : ℕ) → (48 + x % 10) % 16 ≡ x % 10
-        value x = omega arith
+unfolding lineKey
+key-line key h = rw (digits-line key) (spelled-digits 16 key ∙ mod-eq-of-lt h)
 
 -- ---- a good line
 
@@ -83,8 +69,8 @@ unfoldable lineFrom : List ℕ → List ℕ
 lineFrom d =
     cardOpens ++ sliceOf 0 4 d ++ space ++ sliceOf 4 4 d ++ space ++ sliceOf 8 6 d ++ between-groups ++ sliceOf 14 1 d ++ space ++ sliceOf 15 1 d ++ closes ++ (0x0A ∷ [])
 
-line-from : (key : ℕ) → lineOf key ≡ lineFrom (listOf 16 (digitOf key))
-unfolding lineFrom lineOf cardText sliceOf listOf
+line-from : (key : ℕ) → lineOf key ≡ lineFrom (digitsOf 16 key)
+unfolding lineFrom lineOf cardText sliceOf digitsOf listOf
 line-from key = refl
 
 -- the line of the digits of s: the bytes of s where the lowest and the highest differ, and theirs where they do not
@@ -138,26 +124,22 @@ module _ (s : List ℕ) (good : goodLine s ≡ true) where
       at i false e = refl
 
   -- and they are decimal digits
-  good-digit : (k : ℕ) → k < 16 → (48 ≤ getD (lineDigits s) k 0) × (getD (lineDigits s) k 0 ≤ 57)
-  good-digit k h =
+  good-digits : all 16 (isDigitAt (lineDigits s)) ≡ true
+  unfolding isDigitAt
+  good-digits = all-of _ 16 (λ k h.
       let p = place-is k h in
       let b = parts .1 (place k) in
-      rw (digits-at s, getD-listOf 16 (λ k. getD s (place k) 0) k h) (rw (p .1) at (b .0), rw (p .2) at (b .1))
+      rw (digits-at s, getD-listOf 16 (λ k. getD s (place k) 0) k h)
+      (and-both (le-leb 48 _ (rw (p .1) at (b .0))) (le-leb _ 57 (rw (p .2) at (b .1)))))
 
   -- "what is read is written back"
   pub line-key : lineOf (lineKey s) ≡ s
-  unfolding lineKey keySpelled digitOf lineDigits sliceOf listOf
-  line-key = line-from (lineKey s) ∙ ap lineFrom (listOf-is 16 (digitOf (lineKey s)) (lineDigits s) refl digit) ∙ good-from
-    where
-      digit : (k : ℕ) → k < 16 → digitOf (lineKey s) k ≡ getD (lineDigits s) k 0
-      digit k h =
-          let e : 15 - k ≡ 16 - suc k = omega arith in
-          let f : ℕ → ℕ = λ k. getD (lineDigits s) k 0 % 16 in
-          rw (e, number-digit 10 16 f (λ k h. omega (arith, good-digit k h)) k h) (omega (arith, good-digit k h))
+  unfolding lineKey
+  line-key = line-from (lineKey s) ∙ ap lineFrom (digits-spelled 16 (lineDigits s) good-digits (rw (digits-at s) (length-listOf 16 (λ k. getD s (place k) 0)))) ∙ good-from
 
   pub key-small : lineKey s < keyLimit
-  unfolding lineKey keySpelled
-  key-small = number-lt 10 16 (λ k. getD (lineDigits s) k 0 % 16) (λ k h. omega (arith, good-digit k h))
+  unfolding lineKey
+  key-small = spelled-small 16 (lineDigits s) good-digits
 
 -- ---- a card's text
 
@@ -193,7 +175,7 @@ card-line s = between-last (cardText 0) (cardText 9999999999999999) s 31 0x0A (l
 pub key-card-line : (s : List ℕ) → length s ≡ 31 → lineKey (s ++ (0x0A ∷ [])) ≡ lineKey s
 unfolding lineKey
 key-card-line s e =
-    ap keySpelled (digits-at (ended s 0x0A)
+    ap (spelled 16) (digits-at (ended s 0x0A)
     ∙ listOf-ext 16 (λ k h. List·getD-append s (0x0A ∷ []) 0 (place k) (omega (arith, place-is k h)))
     ∙ sym (digits-at s))
 
@@ -226,7 +208,7 @@ module _ (s : List ℕ) (good : goodCard s ≡ true) where
 -- ---- the line of a card's own key
 
 -- its digits are the first 16 of the FASC-N
-pub card-digit : (d : List ℕ) → all 32 (decimalAt d) ≡ true → (k : ℕ) → k < 16 → digitOf (keyOf d) k ≡ 48 + getD d k 0
+pub card-digit : (d : List ℕ) → all 32 (decimalAt d) ≡ true → (k : ℕ) → k < 16 → digitOf 16 (keyOf d) k ≡ 48 + getD d k 0
 unfolding digitOf keyOf decimalAt
 card-digit d good k h =
     let e : 15 - k ≡ 16 - suc k = omega arith in

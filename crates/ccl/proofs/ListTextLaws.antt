@@ -14,10 +14,11 @@ use lib.Dec.{eqb, ltb, lit<}
 use lib.ListN.{length, getD, take, drop, List·getD-eq-default, length-take, length-drop}
 use lib.Seq.{take-at, drop-append-add, take-add, take-all, take-take, take-length, getD-take, getD-drop}
 use Rattle.common.specs.Lists.{listOf, overFront, written}
+use Rattle.common.specs.Decimal.{digitOf}
 use Rattle.common.proofs.ListsLaws.{all-at, all-of, listOf-is, length-listOf, getD-listOf}
-use Rattle.ccl.specs.Line.{keyLimit, digitOf, cardText, lineOf, goodLine, lineKey}
+use Rattle.ccl.specs.Line.{keyLimit, cardText, lineOf, goodLine, lineKey}
 use Rattle.ccl.specs.ListText.{lineSize, lineAt, goodLines, wellFormed, keyAt, readRefusal, readOf, keysAfter, smallKeys, writeRefusal, writeOf, linesOf, textAfter}
-use Rattle.ccl.proofs.PassingLaws.{passing-is, passing-all}
+use Rattle.common.proofs.PassingLaws.{passing-is, passing-all}
 use Rattle.ccl.proofs.LineLaws.{length-line, line-good, key-line, line-key, key-small, good-length, only-end}
 use Rattle.ccl.proofs.LinesLaws.{length-text, text-append}
 
@@ -149,9 +150,9 @@ unfolding occurrences
 occurrences-append x [] m = sym (zero-add (occurrences x m))
 occurrences-append x (y ∷ l) m = rw (occurrences-append x l m) (sym (add-assoc (cond (eqb y x) 1 0) (occurrences x l) (occurrences x m)))
 
-digit-no-end : (key k : ℕ) → eqb (digitOf key k) 0x0A ≡ false
+digit-no-end : (key k : ℕ) → eqb (digitOf 16 key k) 0x0A ≡ false
 unfolding digitOf
-digit-no-end key k = ne-eqb (digitOf key k) 0x0A (λ e. omega arith)
+digit-no-end key k = ne-eqb (digitOf 16 key k) 0x0A (λ e. omega arith)
 
 -- a line has one 0A, its last byte
 line-ends : (key : ℕ) → occurrences 0x0A (lineOf key) ≡ 1

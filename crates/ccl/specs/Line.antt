@@ -2,9 +2,9 @@
 -- Assumes nothing.
 use mathlib.Core.Bool.{Bool, cond}
 use mathlib.Core.List.{List, [], _∷_, _++_}
-use Prim.Native.Nat.{ℕ, _+_, _-_, _/_, _%_, _^_}
-use lib.ListN.{getD}
-use Rattle.common.specs.Lists.{listOf, sliceOf, number}
+use Prim.Native.Nat.{ℕ, _+_, _-_, _^_}
+use Rattle.common.specs.Lists.{listOf, sliceOf}
+use Rattle.common.specs.Decimal.{spelled, digitOf}
 use Rattle.card.specs.Fascn.{keyLength}
 use Rattle.text.specs.Form.{between}
 use Rattle.ccl.specs.declared.line.CardKey.{CardKey}
@@ -19,12 +19,9 @@ highestKey = keyLimit - 1
 
 -- ---- the line of a key
 
--- Digit k of the 16 in ASCII, digit 0 the highest, and n of them from digit k on.
-unfoldable pub digitOf : ℕ → ℕ → ℕ
-digitOf key k = 48 + key / 10 ^ (keyLength - 1 - k) % 10
-
+-- n of the key's 16 digits in ASCII, from digit k on.
 abbrev pub digits : ℕ → ℕ → ℕ → List ℕ
-digits key k n = listOf n (λ j. digitOf key (k + j))
+digits key k n = listOf n (λ j. digitOf keyLength key (k + j))
 
 -- `(card (`, ` `, `) (` and `))`
 abbrev pub cardOpens : List ℕ
@@ -57,20 +54,17 @@ goodLine s = between (lineOf 0) (lineOf highestKey) s
 unfoldable pub goodCard : List ℕ → Bool
 goodCard s = between (cardText 0) (cardText highestKey) s
 
--- The bytes at the digits' places, and the number that they spell: the value of an ASCII digit is its low four bits.
+-- The bytes at the digits' places, and the number that they spell.
 unfoldable pub lineDigits : List ℕ → List ℕ
 lineDigits s = sliceOf 7 4 s ++ sliceOf 12 4 s ++ sliceOf 17 6 s ++ sliceOf 26 1 s ++ sliceOf 28 1 s
 
-unfoldable pub keySpelled : List ℕ → ℕ
-keySpelled d = number 10 keyLength (λ k. getD d k 0 % 16)
-
 unfoldable pub lineKey : List ℕ → ℕ
-lineKey s = keySpelled (lineDigits s)
+lineKey s = spelled keyLength (lineDigits s)
 
 -- ---- the answer of the code: document 01's number of each case, and the key beside it
 
 abbrev pub cardAnswer : CardKey → ℕ × ℕ
-cardAnswer (Card key) = (0, key)
+cardAnswer (Card key) = (0, key .0)
 cardAnswer Malformed = (20, 0)
 
 unfoldable pub cardOf : List ℕ → ℕ × ℕ

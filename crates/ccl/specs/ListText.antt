@@ -1,12 +1,12 @@
 -- A list's text and its keys (document 01, "List read", "List write"): "20 malformed line, with the first such line's number, counted from 1; 21 output with fewer places than keys";
 -- "22 a key of 10^16 or more; 21 output under 32 bytes a key. Both give the count of keys, and places past the last key stay."
 -- Assumes nothing.
-use mathlib.Core.Bool.{Bool, cond, not, _&&_}
+use mathlib.Core.Bool.{Bool, cond, not}
 use mathlib.Core.List.{List, [], _∷_, _++_}
-use Prim.Native.Nat.{ℕ, zero, suc, _+_, _*_, _/_}
+use Prim.Native.Nat.{ℕ, _+_, _*_, _/_}
 use lib.Dec.{eqb, ltb}
 use lib.ListN.{length, getD, take, drop}
-use Rattle.common.specs.Lists.{all, overFront, written}
+use Rattle.common.specs.Lists.{all, passing, overFront, written}
 use Rattle.common.specs.Refusal.{refusalOf}
 use Rattle.ccl.specs.Line.{keyLimit, goodLine, lineKey, lineOf}
 use Rattle.ccl.specs.declared.list.ListRead.{ListRead}
@@ -22,11 +22,6 @@ lineSize = 32
 -- Line i of the text, counted from 0, where those before it are good: each has 32 bytes.
 unfoldable pub lineAt : List ℕ → ℕ → List ℕ
 lineAt text i = take lineSize (drop (lineSize * i) text)
-
--- How many of f 0, f 1, .., f (n - 1) pass before the first that does not.
-unfoldable pub passing : ℕ → (ℕ → Bool) → ℕ
-passing zero f = 0
-passing (suc n) f = cond (eqb (passing n f) n && f n) (suc n) (passing n f)
 
 -- How many good lines the text begins with.
 unfoldable pub goodLines : List ℕ → ℕ

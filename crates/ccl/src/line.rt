@@ -2,9 +2,10 @@
 ghost use mathlib.Core.Path.{_≡_};
 ghost use Prim.Native.Nat.{_<_};
 ghost use lib.ListN.{length};
-ghost use Rattle.common.specs.Lists.{listOf};
+ghost use Rattle.common.specs.Decimal.{spelled, digitsOf};
 ghost use Rattle.card.specs.Fascn.{keyLength};
-ghost use Rattle.ccl.specs.Line.{digitOf, lineOf, lineDigits, keySpelled, lineKey, cardAnswer, cardOf};
+ghost use Rattle.ccl.specs.Line.{lineOf, lineDigits, lineKey, cardAnswer, cardOf};
+use card::fascn::Key;
 use card::fascn::counts::KEY_DIGITS;
 use text::form;
 
@@ -16,7 +17,7 @@ pub const KEY_LIMIT: u64 = 10000000000000000;
 
 // What card_key answers: the key, or that the text is no card's. `cardAnswer` gives document 01's number of each.
 pub enum CardKey {
-    Card(u64),
+    Card(Key),
     Malformed,
 }
 
@@ -45,21 +46,21 @@ fn line_digits(s: &[u8]) -> [u8; KEY_DIGITS]
     ]
 }
 
-// The number that 16 digits spell.
-fn key_spelled(d: &[u8; KEY_DIGITS]) -> u64
-    ensures { λ r. ⌜ r ≡ keySpelled (now (d .entry)) ⌝ }
+// The key that 16 digits spell.
+fn key_spelled(d: &[u8; KEY_DIGITS]) -> Key
+    ensures { λ r. ⌜ r .0 ≡ spelled keyLength (now (d .entry)) ⌝ }
 {
     let mut n: u64 = 0;
     for k in 0..KEY_DIGITS {
         n = n * 10 + (d[k] % 16) as u64;
     }
-    n
+    Key(n)
 }
 
 // The key in a line, or in a line without its 0A.
-pub(crate) fn line_key(s: &[u8]) -> u64
+pub(crate) fn line_key(s: &[u8]) -> Key
     requires { ⌜ 28 < length (now s) ⌝ }
-    ensures { λ r. ⌜ r ≡ lineKey (now (s .entry)) ⌝ }
+    ensures { λ r. ⌜ r .0 ≡ lineKey (now (s .entry)) ⌝ }
 {
     let d = line_digits(s);
     key_spelled(&d)
@@ -81,11 +82,11 @@ pub fn card_key(s: &[u8]) -> CardKey
 }
 
 // The 16 digits of a key in ASCII, the highest first.
-fn digits_of(key: u64) -> [u8; KEY_DIGITS]
-    ensures { λ r. ⌜ r ≡ listOf keyLength (digitOf key) ⌝ }
+fn digits_of(key: Key) -> [u8; KEY_DIGITS]
+    ensures { λ r. ⌜ r ≡ digitsOf keyLength (key .0) ⌝ }
 {
     let mut d = [0u8; KEY_DIGITS];
-    let mut rest = key;
+    let mut rest = key.0;
     let mut k = KEY_DIGITS;
     while k > 0 {
         k -= 1;
@@ -96,8 +97,8 @@ fn digits_of(key: u64) -> [u8; KEY_DIGITS]
 }
 
 // The line of a key.
-pub(crate) fn line_of(key: u64) -> [u8; LINE]
-    ensures { λ r. ⌜ r ≡ lineOf key ⌝ }
+pub(crate) fn line_of(key: Key) -> [u8; LINE]
+    ensures { λ r. ⌜ r ≡ lineOf (key .0) ⌝ }
 {
     let d = digits_of(key);
     [

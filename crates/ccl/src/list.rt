@@ -8,6 +8,7 @@ ghost use Rattle.ccl.specs.ListText.{lineSize, goodLines, keyAt, readAns
 use crate::line;
 use crate::line::KEY_LIMIT;
 use crate::line::LINE;
+use card::fascn::Key;
 
 // What read answers: how many keys, the number of the first malformed line, or that the places are too few. `readAnswer` gives document 01's number of each.
 pub enum ListRead {
@@ -89,7 +90,8 @@ fn put_keys(text: &[u8], n: usize, keys: &mut [u64])
     for i in 0..n {
         let at = LINE * i;
         let end = at + LINE;
-        keys[i] = line::line_key(&text[at..end]);
+        let key = line::line_key(&text[at..end]);
+        keys[i] = key.0;
     }
 }
 
@@ -136,7 +138,7 @@ fn put_lines(keys: &[u64], out: &mut [u8])
     ensures { λ r. ⌜ now (out .exit) ≡ overFront (linesOf (now (keys .entry))) (now (out .entry)) ⌝ }
 {
     for i in 0..keys.len() {
-        let line = line::line_of(keys[i]);
+        let line = line::line_of(Key(keys[i]));
         put_line(out, LINE * i, &line);
     }
 }

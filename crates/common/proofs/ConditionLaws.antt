@@ -1,9 +1,10 @@
 -- Lists of conditions with their numbers: what is known where none fits, and which number is not the answer.
 -- Assumes nothing.
-use mathlib.Core.Path.{_≡_, refl}
-use mathlib.Core.Bool.{Bool, true, false, not, _&&_, _||_}
+use mathlib.Core.Path.{_≡_, refl, sym, ap}
+use mathlib.Core.Bool.{Bool, true, false, cond, not, _&&_, _||_}
 use mathlib.Core.List.{List, [], _∷_}
-use Prim.Native.Nat.{ℕ}
+use Prim.Native.Nat.{ℕ, suc}
+use native.Mathlib.Omega.{arith}
 use lib.Dec.{eqb}
 use borrow.Author.Tests.{eqb-false, not-true}
 use Rattle.common.specs.Refusal.{refusalOf}
@@ -35,3 +36,13 @@ pub not-named : (k : ℕ) (rs : List (ℕ × Bool)) → names k rs ≡ false →
 not-named k [] n e = eqb-false 0 k n e
 not-named k ((j, true) ∷ rs) n e = eqb-false j k (or-left (eqb j k) (names k rs) n) e
 not-named k ((j, false) ∷ rs) n e = not-named k rs (or-right (eqb j k) (names k rs) n) e
+
+-- ---- an answer by one test: 0 and a value, or another number and nothing (0)
+
+pub accepted-by : (m : ℕ) (b : Bool) (v x : ℕ) → _≡_ {A = ℕ × ℕ} (0, x) (cond b (0, v) (suc m, 0)) → (b ≡ true) × (v ≡ x)
+accepted-by m true v x e = (refl, sym (ap (λ (y : ℕ × ℕ). y .1) e))
+accepted-by m false v x e = absurd (omega (arith, ap (λ (y : ℕ × ℕ). y .0) e))
+
+pub refused-by : (m : ℕ) (b : Bool) (v : ℕ) → _≡_ {A = ℕ × ℕ} (suc m, 0) (cond b (0, v) (suc m, 0)) → b ≡ false
+refused-by m true v e = absurd (omega (arith, ap (λ (y : ℕ × ℕ). y .0) e))
+refused-by m false v e = refl

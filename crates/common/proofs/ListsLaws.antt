@@ -1,17 +1,18 @@
 -- Lists and tests over 0, 1, .., n - 1: what each turn of a loop adds, what the loop has at its end, and what holds at each place.
 -- Assumes nothing.
 use mathlib.Core.Path.{_≡_, refl, sym, ap, ap₂, _∙_}
-use mathlib.Core.Bool.{Bool, true, _&&_, and-eq-true-iff}
+use mathlib.Core.Bool.{Bool, true, false, _&&_, and-eq-true-iff, and-true, and-assoc}
 use mathlib.Core.List.{List, [], _∷_, _++_, append-nil, append-assoc}
 use mathlib.Core.Logic.{⊎-elim}
-use Prim.Native.Nat.{ℕ, zero, suc, _+_, _-_, _≤_, _<_}
+use Prim.Native.Nat.{ℕ, zero, suc, _+_, _-_, _≤_, _<_, min}
 use native.Mathlib.Nat.{not-suc-le-zero, le-of-suc-le-suc, le-step, le-refl, eq-or-lt-of-le, add-zero, add-suc, zero-add}
 use native.Mathlib.Numerals.{add-one}
 use native.Mathlib.Omega.{arith}
-use borrow.Author.Tests.{eqb-true, eq-eqb}
+use borrow.Author.Tests.{eqb-true, eq-eqb, ne-eqb}
 use lib.Dec.{eqb}
 use lib.ListN.{length, getD, set, take, drop, length-append, length-drop, take-append-drop, List·getD-append, length-take}
-use lib.Seq.{drop-cons, drop-length, length-take-le, append-snoc, set-at, getD-at, ext-getD, take-at, drop-at, drop-drop, take-append-seam, drop-append-add, getD-append-add, getD-drop}
+use lib.Seq.{take-nil, drop-nil, drop-cons, drop-length, length-take-le, append-snoc, set-at, getD-at, ext-getD, take-at, drop-at, drop-drop, take-append-seam, drop-append-add, getD-append-add, getD-take, getD-drop}
+use Rattle.common.proofs.TestLaws.{clash}
 use Rattle.common.specs.Lists.{listOf, all, sameBytes, written, overFront, overPlaces}
 
 -- ---- tests
@@ -34,10 +35,26 @@ unfolding all
 all-of f zero h = refl
 all-of f (suc n) h = rw (all-of f n (λ i l. h i (le-step l)), h n (le-refl (suc n)))
 
+-- one that does not pass at each fails at one
+pub all-not : (f : ℕ → Bool) (n : ℕ) → all n f ≡ false → (i : ℕ) × (i < n) × (f i ≡ false)
+unfolding all
+all-not f zero e = clash (sym e)
+all-not f (suc n) e = by (all n f) refl e (λ q. all-not f n q)
+  where
+    by : (b : Bool) → all n f ≡ b → b && f n ≡ false → (all n f ≡ false → (i : ℕ) × (i < n) × (f i ≡ false)) → (i : ℕ) × (i < suc n) × (f i ≡ false)
+    by true q h later = (n, le-refl (suc n), h)
+    by false q h later = let x = later q in (x .0, le-step (x .1), x .2)
+
 pub all-ext : (n : ℕ) {f g : ℕ → Bool} → ((i : ℕ) → i < n → f i ≡ g i) → all n f ≡ all n g
 unfolding all
 all-ext zero h = refl
 all-ext (suc n) h = ap₂ _&&_ (all-ext n (λ i l. h i (le-step l))) (h n (le-refl (suc n)))
+
+-- the first test, and those after it
+pub all-front : (n : ℕ) (f : ℕ → Bool) → all (suc n) f ≡ f 0 && all n (λ i. f (suc i))
+unfolding all
+all-front zero f = sym (and-true (f 0))
+all-front (suc n) f = rw (all-front n f) (and-assoc (f 0) (all n (λ i. f (suc i))) (f (suc n)))
 
 -- all bytes are the same exactly where the lists are
 pub same-refl : (a : List ℕ) → sameBytes a a ≡ true
@@ -49,6 +66,17 @@ unfolding sameBytes
 same-bytes a b p =
     let q = and-eq-true-iff (eqb (length a) (length b)) (all (length a) (λ i. eqb (getD a i 0) (getD b i 0))) .0 p in
     ext-getD 0 a b (eqb-true _ _ (q .0)) (λ i h. eqb-true _ _ (all-at (λ i. eqb (getD a i 0) (getD b i 0)) (length a) (q .1) i h))
+
+-- the first bytes of a list compared with others, by the bytes, where there are as many
+pub same-front : (p s : List ℕ) → length p ≤ length s → sameBytes (take (length p) s) p ≡ all (length p) (λ i. eqb (getD s i 0) (getD p i 0))
+unfolding sameBytes
+same-front p s h =
+    rw (length-take-le (length p) s h, eq-eqb (length p) (length p) refl)
+    (all-ext (length p) (λ i l. ap (λ (x : ℕ). eqb x (getD p i 0)) (getD-take (length p) s i 0 l)))
+
+pub same-short : (p s : List ℕ) → length s < length p → sameBytes (take (length p) s) p ≡ false
+unfolding sameBytes
+same-short p s h = rw (ne-eqb (length (take (length p) s)) (length p) (λ e. omega (arith, length-take (length p) s)))
 
 -- ---- lists
 
@@ -173,3 +201,19 @@ unfolding overFront
 front-after s l i h =
     let e : i ≡ length s + (i - length s) = omega arith in
     rw e (getD-append-add s (drop (length s) l) (i - length s) 0 ∙ getD-drop (length s) l (i - length s) 0)
+
+-- ---- a part of a list, as far as the list goes
+
+pub take-most : (n m : ℕ) (s : List ℕ) → n ≡ min (length s) m → take n s ≡ take m s
+take-most n zero s e = let z : n ≡ 0 = omega (arith, e) in ap (λ (i : ℕ). take i s) z
+take-most n (suc r) [] e = take-nil n
+take-most n (suc r) (a ∷ s) e =
+    let z : n ≡ suc (min (length s) r) = omega (arith, e) in
+    ap (λ (i : ℕ). take i (a ∷ s)) z ∙ ap (λ (l : List ℕ). a ∷ l) (take-most (min (length s) r) r s refl)
+
+pub drop-most : (n m : ℕ) (s : List ℕ) → n ≡ min (length s) m → drop n s ≡ drop m s
+drop-most n zero s e = let z : n ≡ 0 = omega (arith, e) in ap (λ (i : ℕ). drop i s) z
+drop-most n (suc r) [] e = drop-nil n
+drop-most n (suc r) (a ∷ s) e =
+    let z : n ≡ suc (min (length s) r) = omega (arith, e) in
+    ap (λ (i : ℕ). drop i (a ∷ s)) z ∙ drop-most (min (length s) r) r s refl

@@ -1,6 +1,6 @@
 -- Tests: what a test of several gives, and a choice made on both sides by one test.
 -- Assumes nothing.
-use mathlib.Core.Path.{_≡_, refl, subst}
+use mathlib.Core.Path.{_≡_, refl, sym, subst}
 use mathlib.Core.Bool.{Bool, true, false, cond, _&&_, _||_, and-eq-true-iff}
 
 abbrev Untrue : Bool → Type 0
@@ -35,6 +35,12 @@ or-right false b e = e
 pub or-true : (a : Bool) → a || true ≡ true
 or-true true = refl
 or-true false = refl
+
+-- two tests that pass together
+pub same-test : (a b : Bool) → (a ≡ true → b ≡ true) → (b ≡ true → a ≡ true) → a ≡ b
+same-test true b f g = sym (f refl)
+same-test false true f g = g refl
+same-test false false f g = refl
 
 -- a choice that is made on both sides by one test
 pub by-test : {A B : Type 0} (P : A → B → Type 0) (x y : A) (u v : B) (b : Bool) → (b ≡ true → P x u) → (b ≡ false → P y v) → P (cond b x y) (cond b u v)

@@ -1,6 +1,8 @@
 -- What the contracts of all crates share.
 -- Lists: lists, tests and numbers by index
 pub mod Lists
+-- Decimal: decimal digits in ASCII, and the number that they spell
+pub mod Decimal
 -- Refusal: the first condition of a list that fits
 pub mod Refusal
 -- SliceCode: how the code goes about looking for a byte; no public contract cites it

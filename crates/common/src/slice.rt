@@ -1,9 +1,10 @@
-// What all crates do with slices of bytes: one byte, whether two are equal, where a byte stands, and bytes stored from a place on.
+// What all crates do with slices of bytes: one byte, the first bytes and those that follow them, whether two are equal, where a byte stands, and bytes stored from a place on.
+use crate::number;
 ghost use mathlib.Core.Path.{_≡_};
 ghost use mathlib.Core.Bool.{not};
 ghost use Prim.Native.Nat.{_+_, _≤_};
 ghost use lib.Dec.{eqb};
-ghost use lib.ListN.{length, getD, drop};
+ghost use lib.ListN.{length, getD, take, drop};
 ghost use Rattle.bytes.specs.Bytes.{indexOf};
 ghost use Rattle.common.specs.Lists.{all, sameBytes, overPlacesWhere};
 ghost use Rattle.common.specs.SliceCode.{blockSize};
@@ -13,6 +14,22 @@ pub fn byte(s: &[u8], i: usize) -> u8
     ensures { λ r. ⌜ r ≡ getD (now (s .entry)) i 0 ⌝ }
 {
     if i < s.len() { s[i] } else { 0 }
+}
+
+// The first n bytes, or all.
+pub fn front(s: &[u8], n: usize) -> &[u8]
+    ensures { λ r. ⌜ now r ≡ take n (now (s .entry)) ⌝ }
+{
+    let end = number::least(s.len(), n);
+    &s[..end]
+}
+
+// What follows the first n bytes; nothing past the end.
+pub fn after(s: &[u8], n: usize) -> &[u8]
+    ensures { λ r. ⌜ now r ≡ drop n (now (s .entry)) ⌝ }
+{
+    let from = number::least(s.len(), n);
+    &s[from..]
 }
 
 // All bytes are equal, and there are as many. Every byte is looked at: there is no early exit.
@@ -73,6 +90,14 @@ pub fn find(s: &[u8], from: usize, x: u8) -> usize
     }
     let i = past_blocks(s, from, x);
     bytes::scan::find(s, i, s.len(), x)
+}
+
+// How many bytes stand before the first x, all of them where there is none.
+pub fn before_first(s: &[u8], x: u8) -> usize
+    ensures is { λ r. ⌜ r ≡ indexOf x (now (s .entry)) ⌝ }
+    ensures inside { λ r. ⌜ r ≤ length (now (s .entry)) ⌝ }
+{
+    find(s, 0, x)
 }
 
 // The bytes s stored in out from place `at` on, where all of them fit; out as it was where they do not.

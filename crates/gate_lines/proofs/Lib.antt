@@ -1,5 +1,4 @@
 -- Laws of this crate's definitions.
--- CancelledLaws: the list as text and the list that the session searches
 -- LineLaws: a line as a value
 -- LineTextLaws: the text of such a value
 -- ReplyTextLaws: texts put together
@@ -11,7 +10,6 @@
 -- InputLaws: the input cut into lines, in whatever blocks it arrives
 -- LinesLaws: lines put together, and cut again
 -- FeedLaws: a part of a block fed
-pub mod CancelledLaws
 pub mod LineLaws
 pub mod LineTextLaws
 pub mod ReplyTextLaws

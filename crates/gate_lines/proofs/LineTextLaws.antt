@@ -3,26 +3,26 @@
 use mathlib.Core.Path.{_≡_, refl, sym, ap, subst, _∙_}
 use mathlib.Core.Bool.{Bool, true, false, cond, _&&_}
 use mathlib.Core.List.{List, [], _∷_, _++_, append-assoc}
-use Prim.Native.Nat.{ℕ, suc, _+_, _-_, _*_, _/_, _%_, _^_, _≤_, _<_}
+use Prim.Native.Nat.{ℕ, _+_, _-_, _*_, _^_, _≤_, _<_}
 use native.Mathlib.Nat.{mod-eq-of-lt}
 use native.Mathlib.Omega.{arith}
 use borrow.Author.Tests.{eqb-true, ltb-true, le-leb, le-ltb}
-use lib.Dec.{eqb, leb, ltb, lit<}
-use lib.ListN.{length, getD, take, drop, length-drop, length-append, List·getD-append}
-use lib.Seq.{length-take-le, getD-take, getD-append-add, take-append-seam, drop-append-seam, getD-at}
+use lib.Dec.{eqb, ltb, lit<}
+use lib.ListN.{length, getD, take, drop, length-drop, length-append}
+use lib.Seq.{length-take-le, getD-take, getD-drop, take-append-seam, drop-append-seam, getD-at}
 use Rattle.common.specs.Lists.{listOf, sliceOf, all}
-use Rattle.common.proofs.ListsLaws.{all-at, length-listOf, getD-listOf, listOf-is, listOf-ext}
-use Rattle.common.proofs.NumberLaws.{number-ext, number-lt, number-digit, number-mod}
-use Rattle.common.proofs.TestLaws.{and-parts}
+use Rattle.common.proofs.ListsLaws.{all-at, all-of, listOf-is, listOf-ext}
+use Rattle.common.specs.Decimal.{isDigitAt, spelled, digitsOf}
+use Rattle.common.proofs.DecimalLaws.{digit-least, digit-most, length-digitsOf, spelled-digits, spelled-small, front-spelled, spelled-append}
+use Rattle.common.proofs.TestLaws.{and-parts, and-both}
 use Rattle.text.specs.Hex.{bytesIn, hexOf}
-use Rattle.text.specs.Form.{between, decimal, betweenAt}
+use Rattle.text.specs.Form.{between, betweenAt}
 use Rattle.text.proofs.HexLaws.{hex-bytes, bytes-small, length-bytes, length-hex, hex-is-hex, bytes-hex}
 use Rattle.text.proofs.FormLaws.{between-at, between-mark}
 use Rattle.ccl.specs.Line.{space, goodCard, lineKey, cardText}
 use Rattle.ccl.proofs.LineLaws.{card-key, card-small, card-good, key-card}
 use Rattle.gate_lines.specs.Line.{GateLine, longest, openLowest, openHighest, answerOpens, verdictLowest, verdictHighest, hexFrom, headed, callIn, lineIn}
-use Rattle.gate_lines.specs.Gate.{decimalDigit}
-use Rattle.gate_lines.specs.LineText.{digitsText, openName, openText, verdictName, verdictText, withHex, textOfLine, Spelled, HasText}
+use Rattle.gate_lines.specs.LineText.{openName, openText, verdictName, verdictText, withHex, textOfLine, Spelled, HasText}
 use Rattle.gate_lines.proofs.LineLaws.{headed-room, headed-form, headed-hex, headed-parts, line-short}
 
 -- ---- digits
@@ -31,16 +31,18 @@ use Rattle.gate_lines.proofs.LineLaws.{headed-room, headed-form, headed
 abbrev Digits : List ℕ → ℕ → ℕ → Type 0
 Digits s at n = (j : ℕ) → j < n → (48 ≤ getD s (at + j) 0) × (getD s (at + j) 0 ≤ 57)
 
-decimal-lt : (s : List ℕ) (at n : ℕ) → Digits s at n → decimal s at n < 10 ^ n
-unfolding decimal
-decimal-lt s at n d = number-lt 10 n (λ j. getD s (at + j) 0 % 16) (λ j h. omega (arith, d j h))
+digits-all : (s : List ℕ) (at n : ℕ) → Digits s at n → all n (isDigitAt (drop at s)) ≡ true
+unfolding isDigitAt
+digits-all s at n d =
+    all-of _ n (λ j h. rw (getD-drop at s j 0) (and-both (le-leb 48 (getD s (at + j) 0) (d j h .0)) (le-leb (getD s (at + j) 0) 57 (d j h .1))))
+
+digits-lt : (s : List ℕ) (at n : ℕ) → Digits s at n → spelled n (drop at s) < 10 ^ n
+digits-lt s at n d = spelled-small n (drop at s) (digits-all s at n d)
 
 -- the digits of the number that they spell
-digits-back : (s : List ℕ) (at n : ℕ) → Digits s at n → digitsText n (decimal s at n) ≡ sliceOf at n s
-unfolding decimal digitsText sliceOf
-digits-back s at n d =
-    listOf-ext n (λ j h.
-    rw (number-digit 10 n (λ j. getD s (at + j) 0 % 16) (λ j h. omega (arith, d j h)) j h) (omega (arith, d j h)))
+digits-back : (s : List ℕ) (at n : ℕ) → Digits s at n → digitsOf n (spelled n (drop at s)) ≡ sliceOf at n s
+unfolding sliceOf
+digits-back s at n d = front-spelled n (drop at s) (digits-all s at n d) ∙ listOf-ext n (λ j h. getD-drop at s j 0)
 
 -- ---- a line that is not bad is the text of its value
 
@@ -85,11 +87,11 @@ module _ (lo hi s : List ℕ) (good : headed lo hi s ≡ true) where
       rw (eqb-true (getD lo i 0) 48 (b .1), eqb-true (getD hi i 0) 57 (a .1)) at (at-place i (ltb-true i (length lo) (b .0)))
 
 -- the heads, with digits that spell the value's numbers
-open-filled : (s : List ℕ) → Digits s 6 1 → Digits s 8 8 → openText (decimal s 6 1) (decimal s 8 8) ≡ filled openLowest openHighest s
+open-filled : (s : List ℕ) → Digits s 6 1 → Digits s 8 8 → openText (spelled 1 (drop 6 s)) (spelled 8 (drop 8 s)) ≡ filled openLowest openHighest s
 unfolding openText sliceOf listOf
 open-filled s d e = rw (digits-back s 6 1 d, digits-back s 8 8 e)
 
-verdict-filled : (s : List ℕ) → Digits s 9 1 → Digits s 11 1 → verdictText (decimal s 9 1) (decimal s 11 1) ≡ filled verdictLowest verdictHighest s
+verdict-filled : (s : List ℕ) → Digits s 9 1 → Digits s 11 1 → verdictText (spelled 1 (drop 9 s)) (spelled 1 (drop 11 s)) ≡ filled verdictLowest verdictHighest s
 unfolding verdictText sliceOf listOf
 verdict-filled s d e = rw (digits-back s 9 1 d, digits-back s 11 1 e)
 
@@ -103,26 +105,26 @@ chosen P true f g = f refl
 chosen P false f g = g refl
 
 module _ (s : List ℕ) where
-  open-text : headed openLowest openHighest s ≡ true → ValueText s (GateLine.opening (decimal s 6 1) (decimal s 8 8) (bytesIn (hexFrom 17 s)))
+  open-text : headed openLowest openHighest s ≡ true → ValueText s (GateLine.opening (spelled 1 (drop 6 s)) (spelled 8 (drop 8 s)) (bytesIn (hexFrom 17 s)))
   unfolding textOfLine all
   open-text e n =
       let mode = digits-in openLowest openHighest s e 6 1 refl in
       let date = digits-in openLowest openHighest s e 8 8 refl in (
-        (decimal-lt s 6 1 mode, decimal-lt s 8 8 date, bytes-back openLowest openHighest s e),
-        text-back openLowest openHighest s e (openText (decimal s 6 1) (decimal s 8 8)) (open-filled s mode date),
+        (digits-lt s 6 1 mode, digits-lt s 8 8 date, bytes-back openLowest openHighest s e),
+        text-back openLowest openHighest s e (openText (spelled 1 (drop 6 s)) (spelled 8 (drop 8 s))) (open-filled s mode date),
       )
 
   answer-text : headed answerOpens answerOpens s ≡ true → ValueText s (GateLine.answer (bytesIn (hexFrom 8 s)))
   unfolding textOfLine listOf
   answer-text e n = (bytes-back answerOpens answerOpens s e, text-back answerOpens answerOpens s e answerOpens refl)
 
-  verdict-text : headed verdictLowest verdictHighest s ≡ true → ValueText s (GateLine.verdict (decimal s 9 1) (decimal s 11 1) (bytesIn (hexFrom 13 s)))
+  verdict-text : headed verdictLowest verdictHighest s ≡ true → ValueText s (GateLine.verdict (spelled 1 (drop 9 s)) (spelled 1 (drop 11 s)) (bytesIn (hexFrom 13 s)))
   unfolding textOfLine all
   verdict-text e n =
       let kind = digits-in verdictLowest verdictHighest s e 9 1 refl in
       let yesNo = digits-in verdictLowest verdictHighest s e 11 1 refl in (
-        (decimal-lt s 9 1 kind, decimal-lt s 11 1 yesNo, bytes-back verdictLowest verdictHighest s e),
-        text-back verdictLowest verdictHighest s e (verdictText (decimal s 9 1) (decimal s 11 1)) (verdict-filled s kind yesNo),
+        (digits-lt s 9 1 kind, digits-lt s 11 1 yesNo, bytes-back verdictLowest verdictHighest s e),
+        text-back verdictLowest verdictHighest s e (verdictText (spelled 1 (drop 9 s)) (spelled 1 (drop 11 s))) (verdict-filled s kind yesNo),
       )
 
   card-text : goodCard s ≡ true → ValueText s (GateLine.card (lineKey s))
@@ -147,21 +149,10 @@ text-read s v e n = let t = subst (ValueText s) e (value-text s) n in (t .0, t .
 
 -- ---- the text of a value that has one is read as that value
 
-decimal-text : (p q : List ℕ) (n x : ℕ) → x < 10 ^ n → decimal (p ++ digitsText n x ++ q) (length p) n ≡ x
-unfolding decimal digitsText
-decimal-text p q n x h = number-ext 10 n spelled ∙ number-mod 10 n x (lit< tt) ∙ mod-eq-of-lt h
-  where
-    value : (y : ℕ) → (48 + y % 10) % 16 ≡ y % 10
-    value y = omega arith
-
-    spelled : (j : ℕ) → j < n → getD (p ++ digitsText n x ++ q) (length p + j) 0 % 16 ≡ x / 10 ^ (n - suc j) % 10
-    spelled j l =
-        rw (
-          append-assoc p (digitsText n x) q,
-          getD-append-add p (digitsText n x ++ q) j 0,
-          List·getD-append (digitsText n x) q 0 j (rw (length-listOf n (λ j. decimalDigit (x / 10 ^ (n - suc j)))) l),
-          getD-listOf n (λ j. decimalDigit (x / 10 ^ (n - suc j))) j l,
-        ) (value (x / 10 ^ (n - suc j)))
+spelled-text : (p q : List ℕ) (n x : ℕ) → x < 10 ^ n → spelled n (drop (length p) (p ++ digitsOf n x ++ q)) ≡ x
+spelled-text p q n x h =
+    ap (spelled n) (ap (drop (length p)) (append-assoc p (digitsOf n x) q) ∙ drop-append-seam p (digitsOf n x ++ q))
+    ∙ spelled-append n (digitsOf n x) q (length-digitsOf n x) ∙ spelled-digits n x ∙ mod-eq-of-lt h
 
 -- HEX after a head
 module _ (head bytes : List ℕ) where
@@ -202,14 +193,8 @@ module _ (head bytes : List ℕ) where
       )
 
 -- the heads have their forms
-digit-least : (x : ℕ) → leb 48 (decimalDigit x) ≡ true
-digit-least x = le-leb 48 (decimalDigit x) (omega arith)
-
-digit-most : (x : ℕ) → leb (decimalDigit x) 57 ≡ true
-digit-most x = le-leb (decimalDigit x) 57 (omega arith)
-
 open-form : (mode date : ℕ) → between openLowest openHighest (openText mode date) ≡ true
-unfolding between betweenAt openText digitsText listOf all
+unfolding between betweenAt openText digitsOf listOf all
 open-form mode date = simp (digit-least, digit-most)
 
 answer-form : between answerOpens answerOpens answerOpens ≡ true
@@ -217,7 +202,7 @@ unfolding between betweenAt all
 answer-form = refl
 
 verdict-form : (kind yesNo : ℕ) → between verdictLowest verdictHighest (verdictText kind yesNo) ≡ true
-unfolding between betweenAt verdictText digitsText listOf all
+unfolding between betweenAt verdictText digitsOf listOf all
 verdict-form kind yesNo = simp (digit-least, digit-most)
 
 -- a line of another form: its second byte tells the forms apart
@@ -242,22 +227,22 @@ closed bytes = hexOf bytes ++ (0x29 ∷ [])
 
 open-parts : (mode date : ℕ) (aid : List ℕ) → mode < 10 → date < 10 ^ 8 → Spelled aid
     → let s = withHex (openText mode date) aid in
-    (decimal s 6 1 ≡ mode) × (decimal s 8 8 ≡ date) × (bytesIn (hexFrom 17 s) ≡ aid) × (getD s 1 0 ≡ 0x6F)
-unfolding withHex openText digitsText listOf
+    (spelled 1 (drop 6 s) ≡ mode) × (spelled 8 (drop 8 s) ≡ date) × (bytesIn (hexFrom 17 s) ≡ aid) × (getD s 1 0 ≡ 0x6F)
+unfolding withHex openText digitsOf listOf
 open-parts mode date aid h k w = (
-  decimal-text openName (space ++ digitsText 8 date ++ space ++ closed aid) 1 mode h,
-  decimal-text (openName ++ digitsText 1 mode ++ space) (space ++ closed aid) 8 date k,
+  spelled-text openName (space ++ digitsOf 8 date ++ space ++ closed aid) 1 mode h,
+  spelled-text (openName ++ digitsOf 1 mode ++ space) (space ++ closed aid) 8 date k,
   bytes-after (openText mode date) aid w,
   refl,
 )
 
 verdict-parts : (kind yesNo : ℕ) (fascn : List ℕ) → kind < 10 → yesNo < 10 → Spelled fascn
     → let s = withHex (verdictText kind yesNo) fascn in
-    (decimal s 9 1 ≡ kind) × (decimal s 11 1 ≡ yesNo) × (bytesIn (hexFrom 13 s) ≡ fascn) × (getD s 1 0 ≡ 0x76)
-unfolding withHex verdictText digitsText listOf
+    (spelled 1 (drop 9 s) ≡ kind) × (spelled 1 (drop 11 s) ≡ yesNo) × (bytesIn (hexFrom 13 s) ≡ fascn) × (getD s 1 0 ≡ 0x76)
+unfolding withHex verdictText digitsOf listOf
 verdict-parts kind yesNo fascn h k w = (
-  decimal-text verdictName (space ++ digitsText 1 yesNo ++ space ++ closed fascn) 1 kind h,
-  decimal-text (verdictName ++ digitsText 1 kind ++ space) (space ++ closed fascn) 1 yesNo k,
+  spelled-text verdictName (space ++ digitsOf 1 yesNo ++ space ++ closed fascn) 1 kind h,
+  spelled-text (verdictName ++ digitsOf 1 kind ++ space) (space ++ closed fascn) 1 yesNo k,
   bytes-after (verdictText kind yesNo) fascn w,
   refl,
 )

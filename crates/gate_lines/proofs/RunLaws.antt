@@ -9,7 +9,7 @@ use native.Mathlib.Nat.{le-of-eq}
 use native.Mathlib.Omega.{arith}
 use borrow.Author.Tests.{eqb-true, eq-eqb}
 use lib.Dec.{eqb, ltb}
-use lib.ListN.{length, replicate}
+use lib.ListN.{length, drop, replicate}
 use Rattle.session.specs.Tables.{stampSize}
 use Rattle.session.specs.Operation.{dead, opened, openRefusal, openOf, commandOf, answerRefusal, answerOf, answerBuffer, verdictOf, stampAnswer, stampBuffer}
 use Rattle.session.specs.Reading.{Opening}
@@ -24,7 +24,7 @@ use Rattle.session.proofs.PromiseLaws.{reached, promise}
 use Rattle.session.proofs.RunLaws.{zero-or}
 use Rattle.common.proofs.TestLaws.{by-test, either}
 use Rattle.text.specs.Hex.{bytesIn}
-use Rattle.text.specs.Form.{decimal}
+use Rattle.common.specs.Decimal.{spelled}
 use Rattle.text.proofs.HexLaws.{bytes-small}
 use Rattle.ccl.specs.Line.{goodCard, lineKey}
 use Rattle.gate_lines.specs.Line.{GateLine, longest, openLowest, openHighest, answerOpens, verdictLowest, verdictHighest, hexFrom, headed, callIn, lineIn}
@@ -153,7 +153,7 @@ pub line-bytes : (l : List ℕ) → LineBytes (lineIn l)
 unfolding lineIn callIn
 line-bytes l =
     bytes-by (ltb longest (length l)) (goodCard l) (headed openLowest openHighest l) (headed answerOpens answerOpens l) (headed verdictLowest verdictHighest l)
-    (lineKey l) (decimal l 6 1) (decimal l 8 8) (decimal l 9 1) (decimal l 11 1) (bytesIn (hexFrom 17 l)) (bytesIn (hexFrom 8 l)) (bytesIn (hexFrom 13 l)) (bytes-small (hexFrom 8 l))
+    (lineKey l) (spelled 1 (drop 6 l)) (spelled 8 (drop 8 l)) (spelled 1 (drop 9 l)) (spelled 1 (drop 11 l)) (bytesIn (hexFrom 17 l)) (bytesIn (hexFrom 8 l)) (bytesIn (hexFrom 13 l)) (bytes-small (hexFrom 8 l))
 
 lines-reach : (ls : List (List ℕ)) (g : Gate) (t : Since) → Reached t g → Reached (sinceLines g t ls) (runLines g ls)
 unfolding sinceLines runLines

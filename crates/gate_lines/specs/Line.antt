@@ -7,7 +7,8 @@ use Prim.Native.Nat.{ℕ, _+_, _-_}
 use lib.Dec.{eqb, ltb, leb}
 use lib.ListN.{length, getD, take, drop}
 use Rattle.text.specs.Hex.{isHex, bytesIn}
-use Rattle.text.specs.Form.{between, decimal}
+use Rattle.common.specs.Decimal.{spelled}
+use Rattle.text.specs.Form.{between}
 use Rattle.ccl.specs.Line.{goodCard, lineKey}
 
 pub data GateLine : Type 0 where
@@ -66,9 +67,9 @@ headed lowest highest s =
 -- of a line that is no card
 unfoldable pub callIn : List ℕ → GateLine
 callIn s =
-    cond (headed openLowest openHighest s) (opening (decimal s 6 1) (decimal s 8 8) (bytesIn (hexFrom openHead s)))
+    cond (headed openLowest openHighest s) (opening (spelled 1 (drop 6 s)) (spelled 8 (drop 8 s)) (bytesIn (hexFrom openHead s)))
     (cond (headed answerOpens answerOpens s) (answer (bytesIn (hexFrom answerHead s)))
-    (cond (headed verdictLowest verdictHighest s) (verdict (decimal s 9 1) (decimal s 11 1) (bytesIn (hexFrom verdictHead s))) bad))
+    (cond (headed verdictLowest verdictHighest s) (verdict (spelled 1 (drop 9 s)) (spelled 1 (drop 11 s)) (bytesIn (hexFrom verdictHead s))) bad))
 
 unfoldable pub lineIn : List ℕ → GateLine
 lineIn s = cond (ltb longest (length s)) bad (cond (goodCard s) (card (lineKey s)) (callIn s))

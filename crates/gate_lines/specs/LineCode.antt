@@ -11,7 +11,7 @@ use Rattle.gate_lines.specs.declared.line.Line.the-variants as lines
 
 -- What the code's answer says of the line s.
 abbrev pub lineBy : Line → List ℕ → GateLine
-lineBy (lines.Card key) s = GateLine.card key
+lineBy (lines.Card key) s = GateLine.card (key .0)
 lineBy (lines.Open mode date) s = GateLine.opening mode date (bytesIn (hexFrom openHead s))
 lineBy lines.Answer s = GateLine.answer (bytesIn (hexFrom answerHead s))
 lineBy (lines.Verdict kind yesNo) s = GateLine.verdict kind yesNo (bytesIn (hexFrom verdictHead s))

@@ -2,32 +2,27 @@
 -- one or more pairs of upper-case digits; MODE, KIND and YES are one decimal digit, DATE eight". The laws of LineTextLaws tie it to `lineIn`.
 -- Assumes nothing.
 use mathlib.Core.List.{List, [], _∷_, _++_}
-use Prim.Native.Nat.{ℕ, suc, _-_, _/_, _^_, _≤_, _<_}
+use Prim.Native.Nat.{ℕ, _^_, _≤_, _<_}
 use lib.ListN.{length}
-use Rattle.common.specs.Lists.{listOf}
+use Rattle.common.specs.Decimal.{digitsOf}
 use Rattle.text.specs.Hex.{hexOf}
 use Rattle.ccl.specs.Line.{keyLimit, space, cardText}
 use Rattle.session.specs.Promise.{Bytes}
 use Rattle.gate_lines.specs.Line.{GateLine, answerOpens}
-use Rattle.gate_lines.specs.Gate.{decimalDigit}
-
--- The last n decimal digits of x in ASCII, the highest first.
-unfoldable pub digitsText : ℕ → ℕ → List ℕ
-digitsText n x = listOf n (λ j. decimalDigit (x / 10 ^ (n - suc j)))
 
 -- `(open ` and `(open MODE DATE `
 abbrev pub openName : List ℕ
 openName = 0x28 ∷ 0x6F ∷ 0x70 ∷ 0x65 ∷ 0x6E ∷ 0x20 ∷ []
 
 unfoldable pub openText : ℕ → ℕ → List ℕ
-openText mode date = openName ++ digitsText 1 mode ++ space ++ digitsText 8 date ++ space
+openText mode date = openName ++ digitsOf 1 mode ++ space ++ digitsOf 8 date ++ space
 
 -- `(verdict ` and `(verdict KIND YES `
 abbrev pub verdictName : List ℕ
 verdictName = 0x28 ∷ 0x76 ∷ 0x65 ∷ 0x72 ∷ 0x64 ∷ 0x69 ∷ 0x63 ∷ 0x74 ∷ 0x20 ∷ []
 
 unfoldable pub verdictText : ℕ → ℕ → List ℕ
-verdictText kind yesNo = verdictName ++ digitsText 1 kind ++ space ++ digitsText 1 yesNo ++ space
+verdictText kind yesNo = verdictName ++ digitsOf 1 kind ++ space ++ digitsOf 1 yesNo ++ space
 
 -- HEX and `)` after a head
 unfoldable pub withHex : List ℕ → List ℕ → List ℕ

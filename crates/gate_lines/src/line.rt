@@ -1,12 +1,13 @@
 // A line of the input, without its 0A.
+use card::fascn::Key;
 use ccl::line;
 use ccl::line::CardKey;
 use text::form;
 use text::hex;
 ghost use mathlib.Core.Path.{_≡_};
 ghost use Prim.Native.Nat.{_+_, _≤_, _<_};
-ghost use lib.ListN.{length};
-ghost use Rattle.text.specs.Form.{decimal};
+ghost use lib.ListN.{length, drop};
+ghost use Rattle.common.specs.Decimal.{spelled};
 ghost use Rattle.gate_lines.specs.Line.{longest, openHead, hexFrom, headed, callIn, lineIn};
 ghost use Rattle.gate_lines.specs.LineCode.{lineBy, Fits};
 
@@ -23,7 +24,7 @@ pub(crate) const VERDICT_HEAD: usize = 13;
 // What a line is; the bytes that HEX spells are read from the line when they are needed. `lineBy` gives the whole value.
 pub enum Line {
     // a card, with its key
-    Card(u64),
+    Card(Key),
     // `(open MODE DATE AID)`, with mode and date
     Open(u8, u32),
     // `(answer HEX)`
@@ -62,7 +63,7 @@ fn headed(lowest: &[u8], highest: &[u8], s: &[u8]) -> bool
 // The number that the eight digits from place 8 on spell.
 fn date_in(s: &[u8]) -> u32
     requires { ⌜ 16 ≤ length (now s) ⌝ }
-    ensures { λ r. ⌜ r ≡ decimal (now (s .entry)) 8 8 ⌝ }
+    ensures { λ r. ⌜ r ≡ spelled 8 (drop 8 (now (s .entry))) ⌝ }
 {
     let mut n: u32 = 0;
     for j in 0..8 {
@@ -74,7 +75,7 @@ fn date_in(s: &[u8]) -> u32
 // The number that the digit at place i spells.
 fn digit_in(s: &[u8], i: usize) -> u8
     requires { ⌜ i < length (now s) ⌝ }
-    ensures { λ r. ⌜ r ≡ decimal (now (s .entry)) i 1 ⌝ }
+    ensures { λ r. ⌜ r ≡ spelled 1 (drop i (now (s .entry))) ⌝ }
 {
     s[i] % 16
 }

@@ -10,6 +10,7 @@ use crate::state::LineReply;
 use crate::state::LineRun;
 use crate::state::State;
 use card::command::COMMAND_MOST;
+use card::fascn::Key;
 use common::number;
 use session::figures::OBJECT;
 use session::open;
@@ -65,15 +66,15 @@ fn answered_by(answered: Answered, cards: usize) -> LineRun
 
 impl State {
     // A card line: the key is kept after those before it, where there is room.
-    fn card_line(self, cards: &mut [u64], key: u64) -> LineRun
+    fn card_line(self, cards: &mut [u64], key: Key) -> LineRun
         requires { ⌜ length (now cards) ≡ mostCards ⌝ }
-        ensures { λ r. ⌜ gateOf (r .state) (now (cards .exit)) [] ≡ gateAfter (gateOf self (now (cards .entry)) []) (GateLine.card key) ⌝ }
-        ensures { λ r. ⌜ r .reply ≡ replyTo (gateOf self (now (cards .entry)) []) (GateLine.card key) ⌝ }
-        ensures { λ r. ⌜ (r .state .cards, now (cards .exit)) ≡ cardsAfter self (now (cards .entry)) (GateLine.card key) ⌝ }
+        ensures { λ r. ⌜ gateOf (r .state) (now (cards .exit)) [] ≡ gateAfter (gateOf self (now (cards .entry)) []) (GateLine.card (key .0)) ⌝ }
+        ensures { λ r. ⌜ r .reply ≡ replyTo (gateOf self (now (cards .entry)) []) (GateLine.card (key .0)) ⌝ }
+        ensures { λ r. ⌜ (r .state .cards, now (cards .exit)) ≡ cardsAfter self (now (cards .entry)) (GateLine.card (key .0)) ⌝ }
     {
         let n = self.cards;
         if n < CARDS {
-            cards[n] = key;
+            cards[n] = key.0;
             let session = self.session;
             let state = State {
                 session,

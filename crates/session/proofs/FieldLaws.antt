@@ -14,7 +14,8 @@ use Rattle.card.specs.Object.{rowsOf, partIn, bytesAt, fieldPart, fieldValue}
 use Rattle.card.specs.declared.object.Kind.{Kind}
 use Rattle.card.specs.declared.object.Part.{Part}
 use Rattle.card.proofs.ObjectLaws.{part-inside, field-after}
-use Rattle.session.specs.Tables.{hasStep2, kindAt, baseOf, objectSize, isIn, step1Tags, step2Tags, stepOfTag, stepRead}
+use Rattle.common.specs.Lists.{isIn}
+use Rattle.session.specs.Tables.{hasStep2, kindAt, baseOf, objectSize, step1Tags, step2Tags, stepOfTag, stepRead}
 use Rattle.session.specs.Reading.{StepOne, Found, Reading, joinedOne, joinedTwo, joinedAt, fieldIn, fieldFor}
 use Rattle.session.specs.Operation.{noParts, partFor, fieldOf}
 use Rattle.session.proofs.Invariant.{parts-one, parts-two, session-of, Held, OneHeld, TwoHeld, Stage, Invariant}

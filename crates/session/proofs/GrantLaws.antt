@@ -10,10 +10,10 @@ use native.Mathlib.Omega.{arith}
 use borrow.Author.Tests.{eqb-true, eqb-false, leb-true, le-leb}
 use lib.Dec.{eqb, leb}
 use lib.ListN.{length, getD}
-use Rattle.common.specs.Lists.{sameBytes}
+use Rattle.common.specs.Lists.{sameBytes, isIn}
 use Rattle.common.proofs.ListsLaws.{all-at}
 use Rattle.common.proofs.ListsLaws.{same-bytes, same-refl}
-use Rattle.session.specs.Tables.{checks, goodKind, needs, isIn, checkServed, outcomeOf, passed, unneeded, failed, otherCard, verdictOutcome, expiryOutcome, listed, listOutcome, lowestFrom, causeOf, allPassed, standingOf, fascnRead, keyRead, expiryRead}
+use Rattle.session.specs.Tables.{checks, goodKind, needs, checkServed, outcomeOf, passed, unneeded, failed, otherCard, verdictOutcome, expiryOutcome, listOutcome, lowestFrom, causeOf, allPassed, standingOf, fascnRead, keyRead, expiryRead}
 use Rattle.session.specs.Reading.{Opening, StepOne, Verdict, Found, Reading, ownFascn}
 use Rattle.session.specs.Finding.{verdictOn, finding, standing, Granted}
 use Rattle.common.proofs.TestLaws.{clash, and-left, and-right, either}
@@ -65,9 +65,9 @@ in-time-by date expiry e = leb-true date expiry (go (leb date expiry) e)
     go true q = refl
     go false q = absurd (omega arith)
 
-not-listed-by : (key : ℕ) (cancelled : List ℕ) → listOutcome key cancelled ≡ passed → listed key cancelled ≡ false
+not-listed-by : (key : ℕ) (cancelled : List ℕ) → listOutcome key cancelled ≡ passed → isIn key cancelled ≡ false
 unfolding listOutcome
-not-listed-by key cancelled e = go (listed key cancelled) e
+not-listed-by key cancelled e = go (isIn key cancelled) e
   where
     go : (b : Bool) → cond {A = ℕ} b failed passed ≡ passed → b ≡ false
     go true q = absurd (omega arith)

@@ -7,8 +7,6 @@ pub mod BytesLaws
 pub mod BufferLaws
 -- RuleLaws: the rules of an answer
 pub mod RuleLaws
--- ListedLaws: a key in a list
-pub mod ListedLaws
 -- OutcomeLaws: outcomes
 pub mod OutcomeLaws
 -- TablesLaws: the tables that the code walks

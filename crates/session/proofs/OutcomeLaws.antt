@@ -9,9 +9,9 @@ use borrow.Author.Tests.{leb-true, eqb-true, eqb-false}
 use lib.Dec.{eqb, leb}
 use lib.ListN.{length, getD, set}
 use lib.Seq.{getD-set-same, getD-set-other}
-use Rattle.common.specs.Lists.{sameBytes}
+use Rattle.common.specs.Lists.{sameBytes, isIn}
 use Rattle.common.proofs.ListsLaws.{all-at, all-of}
-use Rattle.session.specs.Tables.{checks, goodKind, checkServed, verdictOutcome, expiryOutcome, listed, listOutcome}
+use Rattle.session.specs.Tables.{checks, goodKind, checkServed, verdictOutcome, expiryOutcome, listOutcome}
 use Rattle.session.specs.Ranges.{outcomesInRange}
 use Rattle.common.proofs.TestLaws.{clash, and-right, either}
 
@@ -77,4 +77,4 @@ expiry-small date expiry = either Small (leb date expiry) {x = 2} {y = 3} refl r
 
 pub list-small : (key : ℕ) (cancelled : List ℕ) → leb (listOutcome key cancelled) 4 ≡ true
 unfolding listOutcome
-list-small key cancelled = either Small (listed key cancelled) {x = 3} {y = 2} refl refl
+list-small key cancelled = either Small (isIn key cancelled) {x = 3} {y = 2} refl refl

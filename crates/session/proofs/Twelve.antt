@@ -6,7 +6,8 @@ use mathlib.Core.List.{List, [], _∷_, _++_, map}
 use Prim.Native.Nat.{ℕ}
 use lib.ListN.{replicate}
 use Rattle.common.specs.Lists.{listOf, sliceOf, all, number, xorOf, sameBytes}
-use Rattle.card.specs.Date.{daysIn, realDate, isDigitAt, spelled, goodDate, dateOf}
+use Rattle.common.specs.Decimal.{isDigitAt, spelled}
+use Rattle.card.specs.Date.{daysIn, realDate, goodDate, dateOf}
 use Rattle.card.specs.Template.{tlvsFrom, tlvsOf, every, wholeTo, lengthsOf, justOne, goodValue, goodFrom, templateOf}
 use Rattle.card.specs.Command.{getResponseBytes, selectBytes, getDataBytes, withLast, statusOf}
 use Rattle.card.specs.Object.{rowsOf, fieldFrom, rowField, fieldsFrom, fieldsAnswer, objectFrom, objectOf, partIn, bytesAt, fieldValue, objectTag}
@@ -99,5 +100,5 @@ table =
     ∷ []
 
 pub twelve : map (λ row. row .0) table ≡ map (λ row. row .1) table
-unfolding example next-after opening template answered-by tables.objectSize tables.capacity tables.needs tables.checkServed tables.neededAt tables.neededOutcomes tables.verdictOutcome tables.expiryOutcome tables.listed tables.listOutcome tables.lowestFrom tables.causeOf tables.allPassed tables.standingOf tables.commandBytes tables.ruleCause tables.objectCause tables.joinedCause tables.stampLayout commandRefused answerRefused goodEnd judged answerTaken verdictRefused read finding stampOf number sameBytes isDigitAt spelled goodDate dateOf tlvsFrom tlvsOf every wholeTo lengthsOf justOne goodValue goodFrom templateOf getResponseBytes selectBytes getDataBytes withLast statusOf bytesAt fieldValue objectTag charBit sentBit bytesOf valuesFrom valuesOf packRefusal packOf keyOf table answer real object place partIn realDate daysIn objectOf objectFrom fieldsAnswer fieldsFrom rowField fieldFrom rowsOf onlyOf onlyFrom headerOf afterTag endingOf tagSize tagNumber lengthSize lengthOf unpackOf unpackRefusal bitAt valueAt oddAt valuesIn digitsFrom marksFrom decimalAt checkValue all listOf sliceOf xorOf
+unfolding example next-after opening template answered-by tables.objectSize tables.capacity tables.needs tables.checkServed tables.neededAt tables.neededOutcomes tables.verdictOutcome tables.expiryOutcome tables.listOutcome tables.lowestFrom tables.causeOf tables.allPassed tables.standingOf tables.commandBytes tables.ruleCause tables.objectCause tables.joinedCause tables.stampLayout commandRefused answerRefused goodEnd judged answerTaken verdictRefused read finding stampOf number sameBytes isDigitAt spelled goodDate dateOf tlvsFrom tlvsOf every wholeTo lengthsOf justOne goodValue goodFrom templateOf getResponseBytes selectBytes getDataBytes withLast statusOf bytesAt fieldValue objectTag charBit sentBit bytesOf valuesFrom valuesOf packRefusal packOf keyOf table answer real object place partIn realDate daysIn objectOf objectFrom fieldsAnswer fieldsFrom rowField fieldFrom rowsOf onlyOf onlyFrom headerOf afterTag endingOf tagSize tagNumber lengthSize lengthOf unpackOf unpackRefusal bitAt valueAt oddAt valuesIn digitsFrom marksFrom decimalAt checkValue all listOf sliceOf xorOf
 twelve = refl

@@ -9,7 +9,8 @@ use Prim.Native.Nat.{ℕ, _≤_}
 use lib.Dec.{eqb}
 use lib.ListN.{replicate}
 use Rattle.card.specs.Fascn.{fascnBytes, packOf}
-use Rattle.session.specs.Tables.{needs, goodKind, checkServed, causeOf, allPassed, standingOf, listed, fascnRead, digitsRead, keyRead, expiryRead, headOf, stampLayout}
+use Rattle.common.specs.Lists.{isIn}
+use Rattle.session.specs.Tables.{needs, goodKind, checkServed, causeOf, allPassed, standingOf, fascnRead, digitsRead, keyRead, expiryRead, headOf, stampLayout}
 use Rattle.session.specs.Reading.{StepOne, Verdict, Reading}
 
 pub record Finding : Type 0 where
@@ -80,6 +81,6 @@ pub record Granted (r : Reading) : Type 0 where
   pub one : StepOne
   pub read : r .found .step1 ≡ Option.some one
   pub in-time : r .opening .date ≤ expiryRead (r .opening .mode) (one .joined)
-  pub not-listed : listed (keyRead (r .opening .mode) (one .joined)) (one .cancelled) ≡ false
+  pub not-listed : isIn (keyRead (r .opening .mode) (one .joined)) (one .cancelled) ≡ false
   pub verdicts : (kind : ℕ) → goodKind kind ≡ true → needs (r .opening .mode) (checkServed kind) ≡ true
       → verdictOn kind (r .found .verdicts) ≡ Option.some (record { kind = kind; yesNo = 1; fascn = fascnRead (r .opening .mode) (one .joined) })

@@ -6,7 +6,7 @@ use mathlib.Core.List.{List, [], _∷_, _++_}
 use Prim.Native.Nat.{ℕ, suc, _+_, _-_, _*_, _/_, _%_}
 use lib.Dec.{eqb, ltb, leb}
 use lib.ListN.{length, getD, set, take, drop}
-use Rattle.common.specs.Lists.{listOf, all, sameBytes}
+use Rattle.common.specs.Lists.{listOf, all, isIn, sameBytes}
 use Rattle.common.specs.Refusal.{refusalOf}
 use Rattle.card.specs.Fascn.{fascnBytes, unpackOf, keyOf}
 use Rattle.card.specs.Template.{templateOf}
@@ -41,11 +41,6 @@ checksOf mode =
     cond (eqb mode 1) (1 ∷ 2 ∷ 3 ∷ 4 ∷ [])
     (cond (eqb mode 2) (3 ∷ 4 ∷ 5 ∷ [])
     (cond (eqb mode 3) (1 ∷ 2 ∷ 3 ∷ 4 ∷ 6 ∷ []) (1 ∷ 2 ∷ 3 ∷ 4 ∷ 5 ∷ 6 ∷ [])))
-
--- A number is one of a list.
-abbrev pub isIn : ℕ → List ℕ → Bool
-isIn x [] = false
-isIn x (y ∷ ys) = eqb x y || isIn x ys
 
 -- The mode needs the check.
 unfoldable pub needs : ℕ → ℕ → Bool
@@ -101,13 +96,9 @@ verdictOutcome own yesNo fascn = cond (eqb yesNo 0) failed (cond (sameBytes fasc
 unfoldable pub expiryOutcome : ℕ → ℕ → ℕ
 expiryOutcome date expiry = cond (leb date expiry) passed failed
 
--- The key stands somewhere among the cancelled keys.
-unfoldable pub listed : ℕ → List ℕ → Bool
-listed key cancelled = not (all (length cancelled) (λ i. not (eqb (getD cancelled i 0) key)))
-
 -- Check 4: "3 if the key stands anywhere in the list lent with that answer, else 2".
 unfoldable pub listOutcome : ℕ → List ℕ → ℕ
-listOutcome key cancelled = cond (listed key cancelled) failed passed
+listOutcome key cancelled = cond (isIn key cancelled) failed passed
 
 -- ---- cause and standing
 

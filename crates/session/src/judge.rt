@@ -25,7 +25,7 @@ ghost use mathlib.Core.Path.{_≡_};
 ghost use Prim.Native.Nat.{_+_};
 ghost use Rattle.card.specs.Object.{objectOf, fieldValue};
 ghost use Rattle.card.specs.Date.{dateAnswer};
-ghost use Rattle.session.specs.Tables.{expiryOutcome, listed, listOutcome, kindAt, withOutcome};
+ghost use Rattle.session.specs.Tables.{expiryOutcome, listOutcome, kindAt, withOutcome};
 ghost use Rattle.session.specs.Operation.{step2EndSession, judgedSession};
 
 // The number that a date spells, 0 where it is none.
@@ -44,22 +44,10 @@ fn expiry_outcome(date: u32, expiry: u32) -> u8
     if date <= expiry { PASSED } else { FAILED }
 }
 
-// Whether the key stands anywhere in the list. Every place is looked at: there is no early exit.
-fn listed(key: Key, cancelled: &[u64]) -> bool
-    ensures { λ r. ⌜ r ≡ listed (key .0) (now (cancelled .entry)) ⌝ }
-{
-    let wanted = key.0;
-    let mut absent = true;
-    for i in 0..cancelled.len() {
-        absent = absent & (cancelled[i] != wanted);
-    }
-    !absent
-}
-
 fn list_outcome(key: Key, cancelled: &[u64]) -> u8
     ensures { λ r. ⌜ r ≡ listOutcome (key .0) (now (cancelled .entry)) ⌝ }
 {
-    if listed(key, cancelled) {
+    if key.listed(cancelled) {
         FAILED
     } else {
         PASSED

@@ -3,10 +3,10 @@
 -- Assumes nothing.
 use mathlib.Core.Bool.{Bool, _&&_}
 use mathlib.Core.List.{List}
-use Prim.Native.Nat.{ℕ, _+_, _%_}
+use Prim.Native.Nat.{ℕ}
 use lib.Dec.{eqb, leb}
 use lib.ListN.{length, getD}
-use Rattle.common.specs.Lists.{all, number}
+use Rattle.common.specs.Lists.{all}
 
 -- Each byte of s lies between those of the two strings, and there are as many.
 unfoldable pub betweenAt : List ℕ → List ℕ → List ℕ → ℕ → Bool
@@ -15,7 +15,3 @@ betweenAt lowest highest s i = leb (getD lowest i 0) (getD s i 0) && leb (getD s
 unfoldable pub between : List ℕ → List ℕ → List ℕ → Bool
 between lowest highest s =
     eqb (length s) (length lowest) && eqb (length s) (length highest) && all (length s) (betweenAt lowest highest s)
-
--- The number that the n digits from place `at` on spell: the value of an ASCII digit is its low four bits.
-unfoldable pub decimal : List ℕ → ℕ → ℕ → ℕ
-decimal s at n = number 10 n (λ j. getD s (at + j) 0 % 16)

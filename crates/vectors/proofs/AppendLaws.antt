@@ -9,10 +9,10 @@ use native.Mathlib.Omega.{arith}
 use borrow.Author.Tests.{lt-ltb, le-ltb, leb-true, leb-false}
 use lib.Dec.{leb, lit≤}
 use lib.ListN.{length, take, drop, take-append-drop, length-append, length-take, length-drop, drop-of-length-le}
-use lib.Seq.{take-nil, drop-nil, take-all, take-at, take-append-seam, take-append-add, drop-append-add, drop-drop, length-take-le}
+use lib.Seq.{take-all, take-at, take-append-seam, take-append-add, drop-append-add, drop-drop, length-take-le}
 use Rattle.io.specs.Digits.{glyph, digits, Fewest}
 use Rattle.common.specs.Lists.{listOf, written, overFront, overPlaces}
-use Rattle.common.proofs.ListsLaws.{length-listOf, listOf-append, length-front}
+use Rattle.common.proofs.ListsLaws.{length-listOf, listOf-append, length-front, take-most}
 use Rattle.text.specs.Hex.{hexDigitAt, hexOf}
 use Rattle.text.proofs.HexLaws.{length-hex}
 use Rattle.vectors.specs.Append.{added, Added, decimalLast}
@@ -108,22 +108,6 @@ pub added-whole : {b0 b1 : List ℕ} {at n : ℕ} {s : List ℕ} → Added b0 at
 added-whole {b0} {b1} {at} {n} {s} p h =
     let e = ap (λ (x : ℕ × List ℕ). x .0) (p .is) in
     ap (λ (x : ℕ × List ℕ). take (x .0) (x .1)) (p .is) ∙ whole-of b0 s at (rw (← e) h)
-
--- ---- a part of a list, as far as the list goes
-
-pub take-most : (n m : ℕ) (s : List ℕ) → n ≡ min (length s) m → take n s ≡ take m s
-take-most n zero s e = let z : n ≡ 0 = omega (arith, e) in ap (λ (i : ℕ). take i s) z
-take-most n (suc r) [] e = take-nil n
-take-most n (suc r) (a ∷ s) e =
-    let z : n ≡ suc (min (length s) r) = omega (arith, e) in
-    ap (λ (i : ℕ). take i (a ∷ s)) z ∙ ap (λ (l : List ℕ). a ∷ l) (take-most (min (length s) r) r s refl)
-
-pub drop-most : (n m : ℕ) (s : List ℕ) → n ≡ min (length s) m → drop n s ≡ drop m s
-drop-most n zero s e = let z : n ≡ 0 = omega (arith, e) in ap (λ (i : ℕ). drop i s) z
-drop-most n (suc r) [] e = drop-nil n
-drop-most n (suc r) (a ∷ s) e =
-    let z : n ≡ suc (min (length s) r) = omega (arith, e) in
-    ap (λ (i : ℕ). drop i (a ∷ s)) z ∙ drop-most (min (length s) r) r s refl
 
 -- ---- how it is written
 

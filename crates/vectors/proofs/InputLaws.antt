@@ -9,13 +9,13 @@ use native.Mathlib.Omega.{arith}
 use lib.Dec.{eqb}
 use lib.ListN.{length, getD, take, drop, length-drop, take-append-drop}
 use lib.Seq.{take-at, drop-at, take-add, take-all, getD-append-add, getD-drop, getD-take, length-take-le}
-use Rattle.common.specs.Lists.{listOf, written, overFront}
+use Rattle.common.specs.Lists.{listOf, written, overFront, concat}
 use Rattle.common.proofs.ListsLaws.{length-listOf, listOf-is}
 use Rattle.bytes.specs.Bytes.{indexOf}
 use Rattle.common.proofs.PlaceLaws.{NoEnd, none-before, with-end}
 use Rattle.vectors.specs.FascnText.{codesText}
 use Rattle.vectors.specs.Line.{lineText}
-use Rattle.vectors.specs.Input.{linesText, restOf, lastLineText, inputText, blocksText, joined, moved}
+use Rattle.vectors.specs.Input.{linesText, restOf, lastLineText, inputText, blocksText, moved}
 
 -- ---- block after block
 
@@ -84,14 +84,14 @@ again x y =
     let rest : restOf [] (h ++ y) ≡ restOf h y = rest-append [] h y ∙ ap (λ (a : List ℕ). restOf a y) (none .1) in
     (lines-append [] x y ∙ ap (λ (l : List ℕ). linesText [] x ++ l) (sym lines), rest-append [] x y ∙ sym rest)
 
-blocks-are : (h : List ℕ) (bs : List (List ℕ)) → NoEnd h → blocksText h bs ≡ linesText [] (h ++ joined bs) ++ lastLineText (restOf [] (h ++ joined bs))
-unfolding blocksText joined
+blocks-are : (h : List ℕ) (bs : List (List ℕ)) → NoEnd h → blocksText h bs ≡ linesText [] (h ++ concat bs) ++ lastLineText (restOf [] (h ++ concat bs))
+unfolding blocksText
 blocks-are h [] n =
     let none = line-none [] h n in
     sym (rw (append-nil h) (ap₂ (λ (a b : List ℕ). a ++ lastLineText b) (none .0) (none .1)))
 blocks-are h (b ∷ bs) n =
     let x = h ++ b in
-    let y = joined bs in
+    let y = concat bs in
     let two = again x y in
     ap (λ (l : List ℕ). linesText [] x ++ l) (blocks-are (restOf [] x) bs (held-none [] x tt))
     ∙ sym (append-assoc (linesText [] x) (linesText [] (restOf [] x ++ y)) (lastLineText (restOf [] (restOf [] x ++ y))))
@@ -99,10 +99,10 @@ blocks-are h (b ∷ bs) n =
     ∙ ap (λ (l : List ℕ). linesText [] l ++ lastLineText (restOf [] l)) (append-assoc h b y)
 
 -- all that is printed is the text of the whole input
-pub in-blocks : (bs : List (List ℕ)) → codesText ++ blocksText [] bs ≡ inputText (joined bs)
+pub in-blocks : (bs : List (List ℕ)) → codesText ++ blocksText [] bs ≡ inputText (concat bs)
 unfolding inputText
 in-blocks bs =
-    ap (λ (l : List ℕ). codesText ++ l) (blocks-are [] bs tt) ∙ sym (append-assoc codesText (linesText [] (joined bs)) (lastLineText (restOf [] (joined bs))))
+    ap (λ (l : List ℕ). codesText ++ l) (blocks-are [] bs tt) ∙ sym (append-assoc codesText (linesText [] (concat bs)) (lastLineText (restOf [] (concat bs))))
 
 -- ---- the loop over a block
 

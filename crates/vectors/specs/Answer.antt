@@ -9,8 +9,9 @@ use Rattle.vectors.specs.Append.{noVector}
 use Rattle.vectors.specs.FascnText.{unpackText, packText}
 use Rattle.vectors.specs.ObjectText.{headerText, templateText, objectText, dateText, realText}
 use Rattle.vectors.specs.CommandText.{selectText, selectAgainText, getDataText, getResponseText, statusText}
+use Rattle.vectors.specs.VisualText.{lookedUpText}
 use Rattle.vectors.specs.declared.answer.VectorCall.{VectorCall}
-use Rattle.vectors.specs.declared.answer.VectorCall.the-variants.{Unknown, Unpack, Pack, Header, Template, Date, Real, Object, Select, SelectAgain, GetData, GetResponse, Status}
+use Rattle.vectors.specs.declared.answer.VectorCall.the-variants.{Unknown, Unpack, Pack, Header, Template, Date, Real, Object, Select, SelectAgain, GetData, GetResponse, Status, Cin}
 
 -- ---- the names
 
@@ -60,6 +61,8 @@ callRows =
     ∷ (0x73 ∷ 0x68 ∷ 0x6F ∷ 0x72 ∷ 0x74 ∷ 0x67 ∷ 0x65 ∷ 0x74 ∷ 0x72 ∷ 0x65 ∷ 0x73 ∷ 0x70 ∷ 0x6F ∷ 0x6E ∷ 0x73 ∷ 0x65 ∷ [], GetResponse 4)
     -- status
     ∷ (0x73 ∷ 0x74 ∷ 0x61 ∷ 0x74 ∷ 0x75 ∷ 0x73 ∷ [], Status)
+    -- cin
+    ∷ (0x63 ∷ 0x69 ∷ 0x6E ∷ [], Cin)
     ∷ []
 
 unfoldable pub callNamed : List ℕ → VectorCall
@@ -82,3 +85,4 @@ answerText (SelectAgain room) s = selectAgainText room s
 answerText (GetData kind room) s = getDataText kind room s
 answerText (GetResponse room) s = getResponseText room s
 answerText Status s = statusText s
+answerText Cin s = lookedUpText s

@@ -1,6 +1,5 @@
 -- The input: bytes, in blocks of any size, cut into lines at 0A, and what is printed for them.
 -- Assumes nothing.
-use mathlib.Core.Path.{_≡_}
 use mathlib.Core.Bool.{cond}
 use mathlib.Core.List.{List, [], _∷_, _++_}
 use Prim.Native.Nat.{ℕ, _-_}
@@ -32,10 +31,6 @@ inputText s = codesText ++ linesText [] s ++ lastLineText (restOf [] s)
 unfoldable pub blocksText : List ℕ → List (List ℕ) → List ℕ
 blocksText held [] = lastLineText held
 blocksText held (b ∷ bs) = linesText [] (held ++ b) ++ blocksText (restOf [] (held ++ b)) bs
-
-unfoldable pub joined : List (List ℕ) → List ℕ
-joined [] = []
-joined (b ∷ bs) = b ++ joined bs
 
 -- The buffer l with its bytes from place `from` to place `end` at its front; the others are as they were.
 unfoldable pub moved : List ℕ → ℕ → ℕ → List ℕ

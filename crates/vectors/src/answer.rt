@@ -5,6 +5,7 @@
 mod command;
 pub(crate) mod fascn;
 mod object;
+mod visual;
 
 use crate::append;
 use card::command::FIRST_LE;
@@ -31,6 +32,7 @@ pub(crate) enum VectorCall {
     GetData(Kind, usize),
     GetResponse(usize),
     Status,
+    Cin,
 }
 
 // The call of a row where the name is the row's, else the other.
@@ -44,7 +46,8 @@ fn row(name: &[u8], word: &[u8], call: VectorCall, other: VectorCall) -> VectorC
 pub(crate) fn call_of(name: &[u8]) -> VectorCall
     ensures { λ r. ⌜ r ≡ callNamed (now (name .entry)) ⌝ }
 {
-    let c = row(name, b"status", VectorCall::Status, VectorCall::Unknown);
+    let c = row(name, b"cin", VectorCall::Cin, VectorCall::Unknown);
+    let c = row(name, b"status", VectorCall::Status, c);
     let c = row(name, b"shortgetresponse", VectorCall::GetResponse(4), c);
     let c = row(name, b"getresponse", VectorCall::GetResponse(6), c);
     let c = row(
@@ -98,5 +101,6 @@ pub(crate) fn answer(out: &mut [u8], at: usize, call: VectorCall, s: &[u8]) -> u
         VectorCall::GetData(kind, room) => command::add_get_data(out, at, kind, room, s),
         VectorCall::GetResponse(room) => command::add_get_response(out, at, room, s),
         VectorCall::Status => command::add_status(out, at, s),
+        VectorCall::Cin => visual::add_looked_up(out, at, s),
     }
 }

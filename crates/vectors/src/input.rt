@@ -1,7 +1,6 @@
 // The input in blocks: the text of a block's lines, the bytes of a line that is not whole yet, and the text of a last line.
 use crate::append;
 use crate::line;
-use crate::part;
 use common::slice;
 ghost use mathlib.Core.Path.{_≡_};
 ghost use mathlib.Core.List.{[]};
@@ -70,7 +69,7 @@ pub(crate) fn use_block(block: &mut [u8], out: &mut [u8], end: usize) -> Used
     ensures holds { λ r. ⌜ now (block .exit) ≡ overFront (restOf [] (take end (now (block .entry)))) (now (block .entry)) ⌝ }
     ensures held { λ r. ⌜ (r .held ≡ length (restOf [] (take end (now (block .entry))))) × (r .held ≤ end) ⌝ }
 {
-    let done = add_lines(out, 0, part::front(block, end));
+    let done = add_lines(out, 0, slice::front(block, end));
     let held = keep(block, done.used, end);
     Used {
         text: done.count,

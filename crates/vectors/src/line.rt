@@ -1,28 +1,17 @@
 // The parts of a line `PLACE: CALL HEX`, and the text that it gives.
 use crate::answer;
 use crate::append;
-use crate::part;
 use common::slice;
 use text::hex;
-ghost use mathlib.Core.Path.{_≡_};
 ghost use Prim.Native.Nat.{_*_, _≤_};
 ghost use lib.ListN.{length};
 ghost use Rattle.text.specs.Hex.{bytesIn};
-ghost use Rattle.bytes.specs.Bytes.{indexOf};
 ghost use Rattle.vectors.specs.Append.{Added};
 ghost use Rattle.vectors.specs.Answer.{callNamed, answerText};
 ghost use Rattle.vectors.specs.Line.{mostBytes, callText, answerOfLine, lineText};
 
 // The most bytes that a line spells; `mostBytes` in the definitions.
 const BYTES: usize = 65536;
-
-// How many bytes stand before the first x, all of them where there is none.
-fn before_first(s: &[u8], x: u8) -> usize
-    ensures is { λ r. ⌜ r ≡ indexOf x (now (s .entry)) ⌝ }
-    ensures inside { λ r. ⌜ r ≤ length (now (s .entry)) ⌝ }
-{
-    slice::find(s, 0, x)
-}
 
 // The answer of the call of that name for the bytes that the digits spell, pairs of digits and not too many.
 fn add_spelled(out: &mut [u8], at: usize, name: &[u8], digits: &[u8]) -> usize
@@ -49,9 +38,9 @@ fn add_call(out: &mut [u8], at: usize, name: &[u8], digits: &[u8]) -> usize
 fn add_answer_of(out: &mut [u8], at: usize, s: &[u8]) -> usize
     ensures { λ r. ⌜ Added (now (out .entry)) at (now (out .exit)) r (answerOfLine (now (s .entry))) ⌝ }
 {
-    let named = part::after(s, before_first(s, b':') + 2);
-    let n = before_first(named, b' ');
-    add_call(out, at, part::front(named, n), part::after(named, n + 1))
+    let named = slice::after(s, slice::before_first(s, b':') + 2);
+    let n = slice::before_first(named, b' ');
+    add_call(out, at, slice::front(named, n), slice::after(named, n + 1))
 }
 
 // A line, and what its call says.

@@ -1,4 +1,4 @@
-// Runs the vectors of standard input through the proved functions of the crate card, and prints each line with what they say of it. The
+// Runs the vectors of standard input through the proved functions of the crates card and ccl, and prints each line with what they say of it. The
 // expected lines, in the file `stdout`, are written from the documents.
 //
 // A line is `PLACE: CALL HEX`: where the vector is from, one word, and pairs of upper-case hexadecimal digits. What it gives is `lineText` in the definitions, and
@@ -10,8 +10,8 @@ mod answer;
 mod append;
 mod input;
 mod line;
-mod part;
 
+use common::slice;
 ghost use mathlib.Core.Path.{_≡_};
 ghost use Prim.Native.Nat.{_≤_};
 ghost use lib.ListN.{length, take};
@@ -33,7 +33,7 @@ fn write_text(out: &[u8], n: usize) -> bool {
         io::write_all(2, b"vectors: the text of a block does not fit the buffer\n");
         return false;
     }
-    let taken = io::write_all(1, part::front(out, n));
+    let taken = io::write_all(1, slice::front(out, n));
     if !taken {
         io::write_all(2, b"vectors: standard output is not written\n");
     }
@@ -61,7 +61,7 @@ fn read_more(block: &mut [u8], held: usize) -> Held
             more: false,
         };
     }
-    let n = io::count(got, part::after(block, held));
+    let n = io::count(got, slice::after(block, held));
     Held {
         count: held + n,
         more: true,
@@ -79,7 +79,7 @@ fn one_block(block: &mut [u8], out: &mut [u8], held: usize) -> Held
         return read;
     }
     if end == held {
-        let n = input::add_last(out, 0, part::front(block, held));
+        let n = input::add_last(out, 0, slice::front(block, held));
         write_text(out, n);
         return Held {
             count: held,

@@ -1,6 +1,5 @@
 // The texts of what the writers of commands and the reader of status words say.
 use crate::append;
-use crate::part;
 use card::command;
 use card::command::CommandAnswer;
 use card::command::Status;
@@ -23,9 +22,9 @@ fn add_written(out: &mut [u8], at: usize, n: usize, buffer: &[u8]) -> usize
 {
     let count = append::add_decimal(out, at, n as u64);
     let head = append::add(out, count, b" bytes ");
-    let first = append::add_hex(out, head, part::front(buffer, n));
+    let first = append::add_hex(out, head, slice::front(buffer, n));
     let middle = append::add(out, first, b", then ");
-    append::add_hex(out, middle, part::after(buffer, n))
+    append::add_hex(out, middle, slice::after(buffer, n))
 }
 
 // The number of a refusal, and the buffer.
@@ -88,7 +87,7 @@ pub(crate) fn add_select(out: &mut [u8], at: usize, last: u8, room: usize, s: &[
 pub(crate) fn add_select_again(out: &mut [u8], at: usize, room: usize, s: &[u8]) -> usize
     ensures { λ r. ⌜ Added (now (out .entry)) at (now (out .exit)) r (selectAgainText room (now (s .entry))) ⌝ }
 {
-    add_select(out, at, slice::byte(s, 0), room, part::after(s, 1))
+    add_select(out, at, slice::byte(s, 0), room, slice::after(s, 1))
 }
 
 // What get_data says, with so much room; the line spells no bytes, or the last byte.

@@ -4,7 +4,8 @@ use native.Mathlib.Omega.{arith}
 use borrow.Author.Needs.{needs}
 use Rattle.common.specs.Lists.{listOf}
 use Rattle.text.proofs.FormLaws.{between-at}
-use Rattle.ccl.specs.Line.{cardText, digitOf, goodCard, cardOf}
+use Rattle.common.specs.Decimal.{digitOf}
+use Rattle.ccl.specs.Line.{cardText, goodCard, cardOf}
 use Rattle.ccl.proofs.line.card_key.Statement.{statement}
 use Rattle.ccl.proofs.line.card_key.Tie as tie
 

@@ -1,51 +1,38 @@
 -- `ccl::line::key_spelled` meets its contract: a turn adds a decimal digit. Assumes nothing.
 use mathlib.Core.Path.{_≡_}
-use Prim.Native.Nat.{ℕ, _+_, _-_, _*_, _%_, _^_, _≤_, _<_}
-use native.Mathlib.Nat.{pow-succ', pow-le-pow-right}
-use native.Mathlib.Numerals.{add-one}
+use Prim.Native.Nat.{_-_, _^_, _*_, _≤_, _<_}
 use native.Mathlib.Omega.{arith}
 use borrow.Author.Needs.{needs}
-use lib.Dec.{lit<}
-use lib.ListN.{getD}
 use Rattle.common.specs.Lists.{number}
-use Rattle.common.proofs.NumberLaws.{number-more}
-use Rattle.ccl.specs.Line.{keySpelled}
+use Rattle.common.specs.Decimal.{spelled}
+use Rattle.common.proofs.DecimalLaws.{spelled-more, spelled-room}
 use Rattle.ccl.proofs.line.key_spelled.Statement.{statement}
 use Rattle.ccl.proofs.line.key_spelled.Tie as tie
 
--- low four bits above 9 are no digits, but fit: n is at most 5 / 3 of 10 ^ k - 1
 abbrev Inv-loop : tie.InvT-loop
-Inv-loop d n₀ k₀ n k = (k ≤ 16) × (n ≡ number 10 k (λ j. getD d j 0 % 16)) × (3 * n + 5 ≤ 5 * 10 ^ k)
+Inv-loop d n₀ k₀ n k = (k ≤ 16) × (n ≡ spelled k d)
 
 abbrev μ-loop : tie.MeasureT-loop
 μ-loop d n₀ k₀ n k = 16 - k
 
-ten : (k : ℕ) → 10 ^ (k + 1) ≡ 10 * 10 ^ k
-ten k = rw add-one (pow-succ' 10 k)
-
-small : (k : ℕ) → k < 16 → 10 ^ k ≤ 10 ^ 15
-small k h = pow-le-pow-right {n = 10} (lit< tt) {i = k} {j = 15} (omega arith)
+-- while digits are left to read, n is small
+small : (c : tie.At-loop Inv-loop μ-loop) → c .loop .k < 16 → c .loop .n < 2 * 10 ^ 15
+small c h = spelled-room (c .before .args .d .now) (c .loop .k) 15 (omega arith) (c .loop .inv .1)
 
 mul-n : tie.Need-mul-n Inv-loop μ-loop
-mul-n c = omega (arith, small (c .before .loop .k) (omega arith))
+mul-n c = omega (arith, small (c .before) (omega arith))
 
 add-n : tie.Need-add-n Inv-loop μ-loop
-add-n c = omega (arith, small (c .before .before .loop .k) (omega arith))
+add-n c = omega (arith, small (c .before .before) (omega arith))
 
 loop-again : tie.Need-loop-again Inv-loop μ-loop
-loop-again c =
-    let at = c .before .before in (
-      search needs,
-      number-more 10 (λ j. getD (at .before .args .d .now) j 0 % 16) (at .loop .k) (at .loop .inv .1),
-      omega (arith, ten (at .loop .k)),
-    )
+loop-again c = let at = c .before .before in (search needs, spelled-more (at .before .args .d .now) (at .loop .k) (at .loop .inv .1))
 
 returns : tie.Need-returns Inv-loop μ-loop
-unfolding keySpelled
 returns c = let e : c .before .loop .k ≡ 16 = omega arith in rw e at (c .before .loop .inv .1)
 
 pub key-spelled-spec : {M : Type 1} → statement M
-unfolding number
+unfolding spelled number
 key-spelled-spec =
     tie.close
     (tie.spec

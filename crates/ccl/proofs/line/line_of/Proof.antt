@@ -1,12 +1,13 @@
 -- `ccl::line::line_of` meets its contract: with the digits, both are the same list. Assumes nothing.
 use borrow.Author.Needs.{needs}
 use Rattle.common.specs.Lists.{listOf}
+use Rattle.common.specs.Decimal.{digitsOf}
 use Rattle.ccl.specs.Line.{lineOf, cardText}
 use Rattle.ccl.proofs.line.line_of.Statement.{statement}
 use Rattle.ccl.proofs.line.line_of.Tie as tie
 
 returns : tie.Need-returns
-unfolding lineOf cardText listOf
+unfolding lineOf cardText digitsOf listOf
 returns c = rw (c .digits-of .ensures)
 
 pub line-of-spec : {M : Type 1} → statement M

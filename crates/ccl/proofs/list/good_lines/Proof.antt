@@ -5,10 +5,11 @@ use native.Mathlib.Omega.{arith}
 use borrow.Author.Needs.{needs}
 use borrow.Author.Tests.{not-true, not-false}
 use lib.ListN.{length}
-use Rattle.common.specs.Lists.{listOf}
-use Rattle.ccl.specs.Line.{goodLine, lineOf, cardText, digitOf}
-use Rattle.ccl.specs.ListText.{lineAt, passing, goodLines}
-use Rattle.ccl.proofs.PassingLaws.{passing-more, passing-stop}
+use Rattle.common.specs.Lists.{listOf, passing}
+use Rattle.common.specs.Decimal.{digitOf}
+use Rattle.ccl.specs.Line.{goodLine, lineOf, cardText}
+use Rattle.ccl.specs.ListText.{lineAt, goodLines}
+use Rattle.common.proofs.PassingLaws.{passing-more, passing-stop}
 use Rattle.ccl.proofs.LinesLaws.{part-line, length-part}
 use Rattle.ccl.proofs.list.good_lines.Statement.{statement}
 use Rattle.ccl.proofs.list.good_lines.Tie as tie

@@ -1,6 +1,6 @@
 -- `gate_lines::line::read` meets its contract: a line that is not too long is a card or a call. Assumes nothing.
-use mathlib.Core.Path.{_≡_, refl, sym, ap, _∙_}
-use mathlib.Core.Bool.{Bool, true, false, cond}
+use mathlib.Core.Path.{_≡_, sym, ap, _∙_}
+use mathlib.Core.Bool.{true, false}
 use mathlib.Core.List.{List}
 use Prim.Native.Nat.{ℕ}
 use native.Mathlib.Omega.{arith}
@@ -8,7 +8,9 @@ use borrow.Author.Needs.{needs}
 use borrow.Author.Tests.{lt-ltb, le-ltb}
 use lib.Dec.{ltb}
 use lib.ListN.{length}
+use Rattle.common.proofs.ConditionLaws.{accepted-by, refused-by}
 use Rattle.ccl.specs.Line.{goodCard, lineKey, cardAnswer, cardOf}
+use Rattle.card.specs.declared.fascn.Key.{Key}
 use Rattle.ccl.specs.declared.line.CardKey.{CardKey}
 use Rattle.ccl.specs.declared.line.CardKey.the-variants.{Card, Malformed}
 use Rattle.gate_lines.specs.Line.{longest, lineIn}
@@ -16,21 +18,13 @@ use Rattle.gate_lines.proofs.line.read.Statement.{statement}
 use Rattle.gate_lines.proofs.line.read.Tie as tie
 
 -- what each answer about a card says
-card-is : (s : List ℕ) (r : CardKey) (key : ℕ) → r ≡ Card key → cardAnswer r ≡ cardOf s → (goodCard s ≡ true) × (lineKey s ≡ key)
+card-is : (s : List ℕ) (r : CardKey) (key : Key) → r ≡ Card key → cardAnswer r ≡ cardOf s → (goodCard s ≡ true) × (lineKey s ≡ key .0)
 unfolding cardOf
-card-is s r key p q = by (goodCard s) (ap cardAnswer (sym p) ∙ q)
-  where
-    by : (b : Bool) → _≡_ {A = ℕ × ℕ} (0, key) (cond b (0, lineKey s) (20, 0)) → (b ≡ true) × (lineKey s ≡ key)
-    by true e = (refl, sym (ap (λ (x : ℕ × ℕ). x .1) e))
-    by false e = absurd (omega (arith, ap (λ (x : ℕ × ℕ). x .0) e))
+card-is s r key p q = accepted-by 19 (goodCard s) (lineKey s) (key .0) (ap cardAnswer (sym p) ∙ q)
 
 no-card : (s : List ℕ) (r : CardKey) → r ≡ Malformed → cardAnswer r ≡ cardOf s → goodCard s ≡ false
 unfolding cardOf
-no-card s r p q = by (goodCard s) (ap cardAnswer (sym p) ∙ q)
-  where
-    by : (b : Bool) → _≡_ {A = ℕ × ℕ} (20, 0) (cond b (0, lineKey s) (20, 0)) → b ≡ false
-    by true e = absurd (omega (arith, ap (λ (x : ℕ × ℕ). x .0) e))
-    by false e = refl
+no-card s r p q = refused-by 19 (goodCard s) (lineKey s) (ap cardAnswer (sym p) ∙ q)
 
 -- what the test of the length tells
 long : (c : tie.Then1) → ltb longest (length (c .before .before .args .s .now)) ≡ true

@@ -5,7 +5,8 @@ use Prim.Native.Nat.{ℕ}
 use borrow.Author.Tests.{eq-eqb, ne-eqb}
 use lib.Dec.{eqb}
 use Rattle.card.specs.Object.{fascnTag, guidTag, expiryTag, signatureTag}
-use Rattle.session.specs.Tables.{isIn, step1Tags, stepOfTag}
+use Rattle.common.specs.Lists.{isIn}
+use Rattle.session.specs.Tables.{step1Tags, stepOfTag}
 use Rattle.session.proofs.tables.step_of_tag.Statement.{statement}
 use Rattle.session.proofs.tables.step_of_tag.Tie as tie
 

@@ -56,6 +56,10 @@ returns-13 : tie.Need-returns-13
 unfolding answerText
 returns-13 c = rw (c .before .before .before .before .enum-told8 .given .1) (c .before .before .add-status .ensures)
 
+returns-14 : tie.Need-returns-14
+unfolding answerText
+returns-14 c = rw (c .before .before .before .before .enum-told9 .given .1) (c .before .before .add-looked-up .ensures)
+
 pub answer-spec : {M : Type 1} → statement M
 answer-spec =
     tie.close
@@ -64,8 +68,8 @@ answer-spec =
     (λ c. search needs) (λ c κs. search needs) (λ c. search needs) (λ c κs. search needs) (λ c. search needs) (λ c κs. search needs)
     (λ c. search needs) (λ c κs. search needs) (λ c. search needs) (λ c κs. search needs) (λ c. search needs) (λ c κs. search needs)
     (λ c. search needs) (λ c κs. search needs) (λ c. search needs) (λ c κs. search needs) (λ c. search needs) (λ c κs. search needs)
-    (λ c. search needs) (λ c κs. search needs) (λ c. search needs) returns (λ c. search needs) returns-2
+    (λ c. search needs) (λ c κs. search needs) (λ c. search needs) (λ c κs. search needs) (λ c. search needs) returns (λ c. search needs) returns-2
     (λ c. search needs) returns-3 (λ c. search needs) returns-4 (λ c. search needs) returns-5
     (λ c. search needs) returns-6 (λ c. search needs) returns-7 (λ c. search needs) returns-8
     (λ c. search needs) returns-9 (λ c. search needs) returns-10 (λ c. search needs) returns-11
-    (λ c. search needs) returns-12 (λ c. search needs) returns-13)
+    (λ c. search needs) returns-12 (λ c. search needs) returns-13 (λ c. search needs) returns-14)

@@ -13,7 +13,7 @@ returns : tie.Need-returns
 unfolding gateAfter replyTo cardsAfter
 returns c =
     let a = c .before .before .args in
-    rw (room (a .self .cards) (a .cards .now) (c .before .before .pre), lt-ltb _ _ (c .before .if1 .taken), card-kept (a .self .cards) (a .key) (a .cards .now) (omega (arith, c .before .before .pre, c .before .if1 .taken))) (refl, (refl, refl))
+    rw (room (a .self .cards) (a .cards .now) (c .before .before .pre), lt-ltb _ _ (c .before .if1 .taken), card-kept (a .self .cards) (a .key .0) (a .cards .now) (omega (arith, c .before .before .pre, c .before .if1 .taken))) (refl, (refl, refl))
 
 returns-2 : tie.Need-returns-2
 unfolding gateAfter replyTo cardsAfter

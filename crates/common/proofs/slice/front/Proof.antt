@@ -1,11 +1,11 @@
--- `vectors::part::front` meets its contract: a place past the end counts as the end. Assumes nothing.
+-- `common::slice::front` meets its contract: a place past the end counts as the end. Assumes nothing.
 use mathlib.Core.Path.{sym}
 use native.Mathlib.Omega.{arith}
 use borrow.Author.Needs.{needs}
 use lib.Seq.{length-take-le}
-use Rattle.vectors.proofs.AppendLaws.{take-most}
-use Rattle.vectors.proofs.part.front.Statement.{statement}
-use Rattle.vectors.proofs.part.front.Tie as tie
+use Rattle.common.proofs.ListsLaws.{take-most}
+use Rattle.common.proofs.slice.front.Statement.{statement}
+use Rattle.common.proofs.slice.front.Tie as tie
 
 slice-aggregate-result : tie.Need-slice-aggregate-result
 slice-aggregate-result c = sym (length-take-le _ _ (omega arith))

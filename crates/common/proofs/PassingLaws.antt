@@ -9,7 +9,8 @@ use native.Mathlib.Numerals.{add-one}
 use native.Mathlib.Omega.{arith}
 use borrow.Author.Tests.{eqb-true, eqb-false, eq-eqb, ne-eqb}
 use lib.Dec.{eqb}
-use Rattle.ccl.specs.ListText.{passing}
+use Rattle.common.proofs.TestLaws.{same-test}
+use Rattle.common.specs.Lists.{passing}
 
 -- at most n pass, each of them does, and where fewer than n do the next does not
 pub record Passing (n : ℕ) (f : ℕ → Bool) (p : ℕ) : Type 0 where
@@ -54,3 +55,23 @@ pub passing-all : (n : ℕ) (f : ℕ → Bool) → ((i : ℕ) → i < n → f i 
 unfolding passing
 passing-all zero f h = refl
 passing-all (suc n) f h = rw (passing-all n f (λ i l. h i (omega arith)), eq-eqb n n refl, h n (omega arith))
+
+pub eqb-suc : (m n : ℕ) → eqb (suc m) (suc n) ≡ eqb m n
+eqb-suc m n =
+    same-test (eqb (suc m) (suc n)) (eqb m n)
+    (λ e. let s = eqb-true (suc m) (suc n) e in eq-eqb m n (omega arith)) (λ e. let s = eqb-true m n e in eq-eqb (suc m) (suc n) (omega arith))
+
+-- the first passes, and how many do after it; or it does not
+pub passing-front : (n : ℕ) (f : ℕ → Bool) → passing (suc n) f ≡ cond (f 0) (suc (passing n (λ i. f (suc i)))) 0
+unfolding passing
+passing-front zero f = refl
+passing-front (suc n) f = by (passing (suc n) f) (passing n (λ i. f (suc i))) (f 0) (passing-front n f)
+  where
+    later : (b : Bool) (m q : ℕ) → cond b (suc m) (suc q) ≡ suc (cond b m q)
+    later true m q = refl
+    later false m q = refl
+
+    by : (p q : ℕ) (b : Bool) → p ≡ cond b (suc q) 0
+        → cond (eqb p (suc n) && f (suc n)) (suc (suc n)) p ≡ cond b (suc (cond (eqb q n && f (suc n)) (suc n) q)) 0
+    by p q true e = rw (e, eqb-suc q n) (later (eqb q n && f (suc n)) (suc n) q)
+    by p q false e = rw (e, ne-eqb 0 (suc n) (λ h. omega arith))
