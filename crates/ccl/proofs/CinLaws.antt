@@ -20,7 +20,7 @@ use Rattle.common.proofs.ConditionLaws.{accepted-by, refused-by}
 use Rattle.ccl.specs.Cin.{longestCin, cinDigits, cinOf, entryOf, entryAnswer}
 use Rattle.ccl.specs.declared.cin.Cin.{Cin}
 use Rattle.ccl.specs.declared.cin.Entry.{Entry}
-use Rattle.ccl.specs.declared.cin.Entry.the-variants.{Typed, Malformed}
+use Rattle.ccl.specs.declared.cin.Entry.the-variants.{Typed, Bad}
 
 -- ---- digits and number
 
@@ -77,7 +77,7 @@ module _ (d : List ℕ) (p : cinDigits d ≡ true) where
   unfolding cinOf
   digits-cin = digits-spelled (length d) d (cin-parts d p .2) refl
 
-  -- which has at most 10
+  -- which has at most 10 digits
   pub cin-small : cinOf d < 10 ^ longestCin
   unfolding cinOf
   cin-small =
@@ -96,6 +96,6 @@ pub entry-typed : (s : List ℕ) (r : Entry) (cin : Cin) → r ≡ Typed cin →
 unfolding entryOf
 entry-typed s r cin p q = accepted-by 22 (cinDigits s) (cinOf s) (cin .0) (ap entryAnswer (sym p) ∙ q)
 
-pub entry-refused : (s : List ℕ) (r : Entry) → r ≡ Malformed → entryAnswer r ≡ entryOf s → cinDigits s ≡ false
+pub entry-refused : (s : List ℕ) (r : Entry) → r ≡ Bad → entryAnswer r ≡ entryOf s → cinDigits s ≡ false
 unfolding entryOf
 entry-refused s r p q = refused-by 22 (cinDigits s) (cinOf s) (ap entryAnswer (sym p) ∙ q)

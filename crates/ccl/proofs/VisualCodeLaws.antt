@@ -19,7 +19,7 @@ use Rattle.common.proofs.PassingLaws.{eqb-suc, passing-is, passing-stop, passin
 use Rattle.common.proofs.NumberLaws.{number-ext}
 use Rattle.ccl.specs.Cin.{longestCin, cinDigits, cinOf}
 use Rattle.ccl.specs.Visual.{cinOpens, cinCloses, visualLineOf, withFirst, textLines, visualDigits, goodVisual, goodVisuals, wellVisual, cinsIn, lookupOf}
-use Rattle.ccl.specs.VisualCode.{leadingDigits, frontSize, frontCin, passOver}
+use Rattle.ccl.specs.VisualCode.{leadingDigits, frontSize, frontNumber, passOver}
 use Rattle.ccl.proofs.CinLaws.{cin-parts, cin-made}
 use Rattle.ccl.proofs.VisualTextLaws.{concat-lines, visual-digits, visual-good, visual-line, lines-made}
 
@@ -127,7 +127,7 @@ record BeginsWithLine (s : List ℕ) : Type 0 where
   digits : cinDigits (frontDigits s) ≡ true
   size : frontSize s ≡ 6 + length (frontDigits s) + 3
   whole : s ≡ visualLineOf (frontDigits s) ++ drop (frontSize s) s
-  number : frontCin s ≡ cinOf (frontDigits s)
+  number : frontNumber s ≡ cinOf (frontDigits s)
 
 -- the tests that a size other than 0 tells of
 front-test : (s : List ℕ) → (frontSize s ≡ 0 → ⊥) → (frontTest s ≡ true) × (frontSize s ≡ 6 + leadingDigits (drop 6 s) + 3)
@@ -173,7 +173,7 @@ module _ (s : List ℕ) (some : frontSize s ≡ 0 → ⊥) where
       sym (take-append-drop 6 s) ∙ ap₂ (λ (a b : List ℕ). a ++ b) (tests .0) (opened ∙ sym (append-assoc (frontDigits s) cinCloses (drop (6 + n + 3) s)))
 
   front-read : BeginsWithLine s
-  unfolding frontCin cinOf
+  unfolding frontNumber cinOf
   front-read =
       let e = front-test s some .1 in
       record {
@@ -207,7 +207,7 @@ first-line (x ∷ s) h = go (eqb x 0x0A) (textLines s)
 module _ (cin k : ℕ) (met : Bool) (s : List ℕ) where
   -- a good line at the front is passed
   pub pass-on : (frontSize s ≡ 0 → ⊥)
-      → passOver cin k met (textLines s) ≡ passOver cin (k + 1) (met || eqb cin (frontCin s)) (textLines (drop (frontSize s) s))
+      → passOver cin k met (textLines s) ≡ passOver cin (k + 1) (met || eqb cin (frontNumber s)) (textLines (drop (frontSize s) s))
   unfolding passOver
   pass-on some =
       let f = front-read s some in

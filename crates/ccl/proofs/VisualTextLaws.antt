@@ -1,5 +1,5 @@
--- A visual list's text and its numbers: what the lines of a text are; what is written as lines of digits is read as those numbers, and a text that is read is such lines; no line is good
--- both in a visual list and in a list of keys.
+-- A visual list's text and its numbers: what the lines of a text are; what is written as lines of digits is read as those numbers, and a text whose lines are all good is such lines; no
+-- line is good both in a visual list and in a list of keys.
 -- Assumes nothing.
 use mathlib.Core.Path.{_≡_, refl, sym, ap, ap₂, _∙_}
 use mathlib.Core.Bool.{Bool, true, false, cond}
@@ -188,7 +188,7 @@ digits-read ds p =
       ap (map (λ l. cinOf (visualDigits l))) e ∙ text-cins ds,
     )
 
--- ---- a text that is read is such lines
+-- ---- a text whose lines are all good is such lines
 
 -- the digits of its lines
 abbrev pub digitsByLine : List ℕ → List (List ℕ)

@@ -32,4 +32,4 @@ entryOf typed = cond (cinDigits typed) (0, cinOf typed) (23, 0)
 -- The answer of the code: document 02's number of each case, and the number typed beside it.
 abbrev pub entryAnswer : Entry → ℕ × ℕ
 entryAnswer (entries.Typed cin) = (0, cin .0)
-entryAnswer entries.Malformed = (23, 0)
+entryAnswer entries.Bad = (23, 0)

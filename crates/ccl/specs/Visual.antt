@@ -14,7 +14,7 @@ use Rattle.ccl.specs.declared.visual.Lookup.the-variants as lookups
 use Rattle.ccl.specs.declared.visual.TypedLookup.{TypedLookup}
 use Rattle.ccl.specs.declared.visual.TypedLookup.the-variants as typed-lookups
 
--- ---- the text of digits
+-- ---- digits written as lines
 
 -- `(cin (`, and `))` with the 0A
 abbrev pub cinOpens : List ℕ

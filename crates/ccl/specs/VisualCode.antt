@@ -21,8 +21,8 @@ frontSize s =
     cond
     (sameBytes (take openingSize s) cinOpens && leb 1 n && leb n longestCin && sameBytes (take closingSize (drop (openingSize + n) s)) cinCloses) (openingSize + n + closingSize) 0
 
-unfoldable pub frontCin : List ℕ → ℕ
-frontCin s = spelled (leadingDigits (drop openingSize s)) (drop openingSize s)
+unfoldable pub frontNumber : List ℕ → ℕ
+frontNumber s = spelled (leadingDigits (drop openingSize s)) (drop openingSize s)
 
 -- The lines one after another, k lines being read and the number met among them or not.
 unfoldable pub passOver : ℕ → ℕ → Bool → List (List ℕ) → ℕ × ℕ

@@ -14,10 +14,10 @@ pub(crate) const LONGEST_CIN: usize = 10;
 // What read_entry answers: the CIN, or that the entry is none. `entryAnswer` gives document 02's number of each.
 pub enum Entry {
     Typed(Cin),
-    Malformed,
+    Bad,
 }
 
-// The digits that some bytes begin with, as far as one more than a CIN may have: how many they are, and the number that they spell. It is a CIN where they are 1 to 10.
+// The digits that some bytes begin with, as far as one more than a CIN may have: how many they are, and the number that they spell. That number is a CIN's where the digits are 1 to 10.
 pub(crate) struct Digits {
     pub count: usize,
     pub number: u64,
@@ -56,5 +56,5 @@ pub fn read_entry(typed: &[u8]) -> Entry
     if (1 <= n) & (n <= LONGEST_CIN) & (n == typed.len()) {
         return Entry::Typed(Cin(digits.number));
     }
-    Entry::Malformed
+    Entry::Bad
 }

@@ -8,7 +8,7 @@ ghost use mathlib.Core.Path.{_≡_};
 ghost use lib.ListN.{take};
 ghost use Rattle.common.specs.Lists.{sameBytes};
 ghost use Rattle.ccl.specs.Visual.{openingSize, closingSize, cinOpens, cinCloses, lookupAnswer, lookupOf, typedAnswer, typedOf};
-ghost use Rattle.ccl.specs.VisualCode.{frontSize, frontCin};
+ghost use Rattle.ccl.specs.VisualCode.{frontSize, frontNumber};
 
 // What Cin::listed answers: whether the number is in the list, or the number of the first malformed line. `lookupAnswer` gives document 02's number of each.
 pub enum Lookup {
@@ -47,7 +47,7 @@ const CLOSING: usize = 3;
 // The line that a text begins with: its count of bytes, 0 where it is malformed, and the number that its digits spell, which counts for nothing then.
 struct FrontLine {
     size: usize,
-    cin: Cin,
+    number: u64,
 }
 
 // Whether the bytes begin with `(cin (`.
@@ -78,20 +78,22 @@ fn closes_line(s: &[u8]) -> bool
 // The line that the bytes begin with.
 fn front_line(s: &[u8]) -> FrontLine
     ensures size { λ r. ⌜ r .size ≡ frontSize (now (s .entry)) ⌝ }
-    ensures cin { λ r. ⌜ r .cin .0 ≡ frontCin (now (s .entry)) ⌝ }
+    ensures number { λ r. ⌜ r .number ≡ frontNumber (now (s .entry)) ⌝ }
 {
     let digits = cin::leading_digits(slice::after(s, OPENING));
     let n = digits.count;
-    let cin = Cin(digits.number);
     let opened = opens_line(s);
     let closed = closes_line(slice::after(s, OPENING + n));
     if opened & (1 <= n) & (n <= LONGEST_CIN) & closed {
         return FrontLine {
             size: OPENING + n + CLOSING,
-            cin,
+            number: digits.number,
         };
     }
-    FrontLine { size: 0, cin }
+    FrontLine {
+        size: 0,
+        number: digits.number,
+    }
 }
 
 impl Cin {
@@ -108,8 +110,7 @@ impl Cin {
             if line.size == 0 {
                 return Lookup::Malformed(lines + 1);
             }
-            let cin = line.cin;
-            met = met | (wanted == cin.0);
+            met = met | (wanted == line.number);
             lines += 1;
             at += line.size;
         }
@@ -138,6 +139,6 @@ pub fn look_up(typed: &[u8], text: &[u8]) -> TypedLookup
 {
     match cin::read_entry(typed) {
         Entry::Typed(cin) => answered(cin.listed(text)),
-        Entry::Malformed => TypedLookup::BadEntry,
+        Entry::Bad => TypedLookup::BadEntry,
     }
 }

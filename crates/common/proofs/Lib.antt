@@ -17,5 +17,5 @@ pub mod NumberLaws
 pub mod DecimalLaws
 -- XorLaws: the exclusive or
 pub mod XorLaws
--- ConditionLaws: lists of conditions with their numbers
+-- ConditionLaws: lists of conditions with their numbers, and an answer by one test
 pub mod ConditionLaws

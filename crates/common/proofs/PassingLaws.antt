@@ -56,6 +56,7 @@ unfolding passing
 passing-all zero f h = refl
 passing-all (suc n) f h = rw (passing-all n f (λ i l. h i (omega arith)), eq-eqb n n refl, h n (omega arith))
 
+-- two counts are the same where those one higher are
 pub eqb-suc : (m n : ℕ) → eqb (suc m) (suc n) ≡ eqb m n
 eqb-suc m n =
     same-test (eqb (suc m) (suc n)) (eqb m n)

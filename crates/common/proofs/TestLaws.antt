@@ -1,4 +1,4 @@
--- Tests: what a test of several gives, and a choice made on both sides by one test.
+-- Tests: what a test of several gives, two tests that pass together, and a choice made on both sides by one test.
 -- Assumes nothing.
 use mathlib.Core.Path.{_≡_, refl, sym, subst}
 use mathlib.Core.Bool.{Bool, true, false, cond, _&&_, _||_, and-eq-true-iff}

@@ -1,7 +1,7 @@
 -- What the contracts of this crate mean.
 -- Append: text written into a lent buffer after what stands there, and numbers as text
--- FascnText, ObjectText, CommandText: the texts of the answers, by the crate card's definitions
--- VisualText: the text of the look-up of a typed number, by the crate ccl's definitions
+-- FascnText, ObjectText, CommandText: the texts of the answers, by crate card's definitions
+-- VisualText: the text of the look-up of a typed number, by crate ccl's definitions
 -- Answer: the calls by name, and the text of each one's answer
 -- Line: the parts of a line of the input, and the text that it gives
 -- Input: the bytes of the input cut into lines, and all that is printed

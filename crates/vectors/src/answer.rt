@@ -1,6 +1,6 @@
 // The calls of a vector's line, by name, and what each answers. A call is a row. To add one:
-// a variant of VectorCall, a row at the end of call_of, an arm of answer, and a function that writes its text, in the file of its subject;
-// in specs/Answer.antt a row at the front of `callRows` and a row of `answerText`, and the definition of that text in the file of its subject;
+// a variant of VectorCall, a row at the front of call_of, an arm of answer, and a function that writes its text, in the file of its subject;
+// in specs/Answer.antt a row at the end of `callRows` and a row of `answerText`, and the definition of that text in the file of its subject;
 // in the proofs of call_of and of answer a line each, and a proof of the function that writes the text.
 mod command;
 pub(crate) mod fascn;

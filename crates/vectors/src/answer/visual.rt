@@ -7,7 +7,7 @@ ghost use Rattle.ccl.specs.Visual.{typedAnswer};
 ghost use Rattle.vectors.specs.Append.{Added};
 ghost use Rattle.vectors.specs.VisualText.{malformedText, textOfLookup, lookedUpText};
 
-// The number of a malformed line.
+// Refusal 24, with the number of the malformed line.
 fn add_malformed(out: &mut [u8], at: usize, n: usize) -> usize
     ensures { λ r. ⌜ Added (now (out .entry)) at (now (out .exit)) r (malformedText n) ⌝ }
 {

@@ -5,7 +5,7 @@ use Prim.Native.Nat.{_+_, _≤_}
 use native.Mathlib.Omega.{arith}
 use borrow.Author.Needs.{needs}
 use lib.Dec.{leb}
-use Rattle.ccl.specs.VisualCode.{frontSize, frontCin}
+use Rattle.ccl.specs.VisualCode.{frontSize, frontNumber}
 use Rattle.ccl.proofs.VisualCodeLaws.{leading-most}
 use Rattle.ccl.proofs.visual.front_line.Statement.{statement}
 use Rattle.ccl.proofs.visual.front_line.Tie as tie
@@ -15,9 +15,9 @@ few : (c : tie.After-leading-digits) → c .leading-digits .result .count ≤ 11
 few c = rw (c .leading-digits .ensures .0) (leading-most _)
 
 -- the number, and the count of bytes by the tests
-cin-is : (c : tie.After-closes-line) → c .before .before .before .leading-digits .result .number ≡ frontCin (c .before .before .before .before .before .before .args .s .now)
-unfolding frontCin
-cin-is c = rw (← c .before .before .before .before .after .ensures, ← c .before .before .before .leading-digits .ensures .0) (c .before .before .before .leading-digits .ensures .1)
+number-is : (c : tie.After-closes-line) → c .before .before .before .leading-digits .result .number ≡ frontNumber (c .before .before .before .before .before .before .args .s .now)
+unfolding frontNumber
+number-is c = rw (← c .before .before .before .before .after .ensures, ← c .before .before .before .leading-digits .ensures .0) (c .before .before .before .leading-digits .ensures .1)
 
 size-is : (c : tie.After-closes-line) → let n = c .before .before .before .leading-digits .result .count in
     cond (c .before .before .opens-line .result && leb 1 n && leb n 10 && c .closes-line .result) (6 + n + 3) 0 ≡ frontSize (c .before .before .before .before .before .before .args .s .now)
@@ -26,10 +26,10 @@ size-is c =
     rw (← c .before .before .before .before .after .ensures, ← c .before .before .before .leading-digits .ensures .0, ← c .before .before .opens-line .ensures, ← c .before .after2 .ensures, ← c .closes-line .ensures)
 
 returns : tie.Need-returns
-returns c = (ap (λ (b : Bool). cond b (6 + c .before .before .before .before .leading-digits .result .count + 3) 0) (sym (c .if1 .taken)) ∙ size-is (c .before), cin-is (c .before))
+returns c = (ap (λ (b : Bool). cond b (6 + c .before .before .before .before .leading-digits .result .count + 3) 0) (sym (c .if1 .taken)) ∙ size-is (c .before), number-is (c .before))
 
 returns-2 : tie.Need-returns-2
-returns-2 c = (ap (λ (b : Bool). cond b (6 + c .before .before .before .before .leading-digits .result .count + 3) 0) (sym (c .if1 .left)) ∙ size-is (c .before), cin-is (c .before))
+returns-2 c = (ap (λ (b : Bool). cond b (6 + c .before .before .before .before .leading-digits .result .count + 3) 0) (sym (c .if1 .left)) ∙ size-is (c .before), number-is (c .before))
 
 pub front-line-spec : {M : Type 1} → statement M
 front-line-spec =

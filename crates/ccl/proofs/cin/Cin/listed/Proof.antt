@@ -9,7 +9,7 @@ use lib.Dec.{eqb}
 use lib.ListN.{length, drop, length-drop}
 use lib.Seq.{drop-drop}
 use Rattle.ccl.specs.Visual.{textLines, lookupOf}
-use Rattle.ccl.specs.VisualCode.{frontSize, frontCin, passOver}
+use Rattle.ccl.specs.VisualCode.{frontSize, frontNumber, passOver}
 use Rattle.ccl.proofs.VisualCodeLaws.{front-within, pass-on, pass-end, pass-stop, lookup-is}
 use Rattle.ccl.proofs.cin.Cin.listed.Statement.{statement}
 use Rattle.ccl.proofs.cin.Cin.listed.Tie as tie
@@ -28,8 +28,8 @@ loop-holds c = (search needs, search needs, lookup-is (c .before .args .self .0)
 size-is : (c : tie.After-front-line Inv-loop μ-loop) → c .front-line .result .size ≡ frontSize (drop (c .before .before .before .loop .at) (c .before .before .before .before .before .args .text .now))
 size-is c = c .front-line .ensures .0 ∙ ap frontSize (c .before .after .ensures)
 
-cin-is : (c : tie.After-front-line Inv-loop μ-loop) → c .front-line .result .cin .0 ≡ frontCin (drop (c .before .before .before .loop .at) (c .before .before .before .before .before .args .text .now))
-cin-is c = c .front-line .ensures .1 ∙ ap frontCin (c .before .after .ensures)
+number-is : (c : tie.After-front-line Inv-loop μ-loop) → c .front-line .result .number ≡ frontNumber (drop (c .before .before .before .loop .at) (c .before .before .before .before .before .args .text .now))
+number-is c = c .front-line .ensures .1 ∙ ap frontNumber (c .before .after .ensures)
 
 inside : (c : tie.After-front-line Inv-loop μ-loop) → c .before .before .before .loop .at + c .front-line .result .size ≤ length (c .before .before .before .before .before .args .text .now)
 inside c =
@@ -46,16 +46,16 @@ returns c =
 
 loop-again : tie.Need-loop-again Inv-loop μ-loop
 loop-again c =
-    let f = c .before .before .before .before .before in
-    let l = c .before .before .before .before .before .before .before .before .loop in
-    let a = c .before .before .before .before .before .before .before .before .before .before .args in
+    let f = c .before .before .before .before in
+    let l = c .before .before .before .before .before .before .before .loop in
+    let a = c .before .before .before .before .before .before .before .before .before .args in
     let s = drop (l .at) (a .text .now) in
     let size = f .front-line .result .size in (
       inside f,
-      omega (arith, l .inv .1, c .before .before .before .if1 .left),
-      ap₂ (λ (x : ℕ) (r : List ℕ). passOver (a .self .0) (l .lines + 1) (l .met || eqb (a .self .0) x) (textLines r)) (cin-is f)
+      omega (arith, l .inv .1, c .before .before .if1 .left),
+      ap₂ (λ (x : ℕ) (r : List ℕ). passOver (a .self .0) (l .lines + 1) (l .met || eqb (a .self .0) x) (textLines r)) (number-is f)
           (sym (drop-drop size (l .at) (a .text .now)) ∙ ap (λ (m : ℕ). drop m s) (size-is f))
-          ∙ sym (pass-on (a .self .0) (l .lines) (l .met) s (λ z. c .before .before .before .if1 .left (size-is f ∙ z))) ∙ l .inv .2,
+          ∙ sym (pass-on (a .self .0) (l .lines) (l .met) s (λ z. c .before .before .if1 .left (size-is f ∙ z))) ∙ l .inv .2,
     )
 
 returns-2 : tie.Need-returns-2 Inv-loop μ-loop
@@ -76,5 +76,5 @@ pub listed-spec : {M : Type 1} → statement M
 listed-spec =
     tie.close
     (tie.spec
-    Inv-loop μ-loop loop-holds (λ c κs. search needs) (λ c κs. search needs) (λ c. search needs) returns (λ c. search needs) (λ c. omega (arith, inside (c .before .before .before .before .before)))
-    (λ c. omega (arith, c .before .before .before .if1 .left)) loop-again returns-2 returns-3)
+    Inv-loop μ-loop loop-holds (λ c κs. search needs) (λ c κs. search needs) (λ c. search needs) returns (λ c. search needs) (λ c. omega (arith, inside (c .before .before .before .before)))
+    (λ c. omega (arith, c .before .before .if1 .left)) loop-again returns-2 returns-3)
