@@ -4,19 +4,19 @@
 use mathlib.Core.Path.{_≡_, refl, sym, ap, ap₂, _∙_}
 use mathlib.Core.Bool.{Bool, true, false, cond, _&&_, _||_, or-false, or-assoc}
 use mathlib.Core.List.{List, [], _∷_, _++_, append-assoc, map}
-use Prim.Native.Nat.{ℕ, zero, suc, _+_, _%_, _≤_, _<_, min, zero-le}
+use Prim.Native.Nat.{ℕ, zero, suc, _+_, _≤_, _<_, min, zero-le}
 use native.Mathlib.Nat.{zero-add, add-zero, le-refl, not-suc-le-zero}
 use native.Mathlib.Omega.{arith}
 use borrow.Author.Tests.{ltb-true, ltb-false, leb-true, le-leb, eqb-true, eq-eqb, ne-eqb}
 use lib.Dec.{eqb, ltb, leb}
 use lib.ListN.{length, getD, take, drop, take-append-drop, length-take, length-drop, List·getD-append, List·getD-eq-default}
-use lib.Seq.{getD-at, drop-at, drop-drop, getD-take, length-take-le}
+use lib.Seq.{getD-at, drop-at, drop-drop, length-take-le}
 use Rattle.common.specs.Lists.{all, concat, passing, isIn, sameBytes}
 use Rattle.common.specs.Decimal.{isDigitAt, spelled}
 use Rattle.common.proofs.TestLaws.{and-parts, and-both, same-test}
 use Rattle.common.proofs.ListsLaws.{all-at, all-of, all-ext, same-refl, same-bytes}
 use Rattle.common.proofs.PassingLaws.{eqb-suc, passing-is, passing-stop, passing-all, passing-front}
-use Rattle.common.proofs.NumberLaws.{number-ext}
+use Rattle.common.proofs.DecimalLaws.{spelled-append}
 use Rattle.ccl.specs.Cin.{longestCin, cinDigits, cinOf}
 use Rattle.ccl.specs.Visual.{cinOpens, cinCloses, visualLineOf, withFirst, textLines, visualDigits, goodVisual, goodVisuals, wellVisual, cinsIn, lookupOf}
 use Rattle.ccl.specs.VisualCode.{leadingDigits, frontSize, frontNumber, passOver}
@@ -84,15 +84,6 @@ not-after : (d r : List ℕ) → isDigitAt (d ++ (cinCloses ++ r)) (length d) �
 unfolding isDigitAt
 not-after d r = rw (getD-at d 0x29 (0x29 ∷ 0x0A ∷ r) 0 (length d) refl)
 
--- digits at the front
-digit-take : (n : ℕ) (s : List ℕ) (i : ℕ) → i < n → isDigitAt (take n s) i ≡ isDigitAt s i
-unfolding isDigitAt
-digit-take n s i h = rw (getD-take n s i 0 h)
-
-spelled-take : (n : ℕ) (s : List ℕ) → spelled n s ≡ spelled n (take n s)
-unfolding spelled
-spelled-take n s = number-ext 10 n (λ i h. ap (λ (x : ℕ). x % 16) (sym (getD-take n s i 0 h)))
-
 module _ (d r : List ℕ) (p : cinDigits d ≡ true) where
   leading-line : leadingDigits (drop 6 (visualLineOf d ++ r)) ≡ length d
   leading-line =
@@ -155,11 +146,15 @@ module _ (s : List ℕ) (some : frontSize s ≡ 0 → ⊥) where
   digits-length : length (frontDigits s) ≡ n
   digits-length = length-take-le n (drop 6 s) (omega (arith, room, length-drop 6 s))
 
+  -- the digits, and what follows them
+  parted : frontDigits s ++ drop n (drop 6 s) ≡ drop 6 s
+  parted = take-append-drop n (drop 6 s)
+
   digits-good : cinDigits (frontDigits s) ≡ true
   digits-good = cin-made (frontDigits s) (rw digits-length (tests .1), rw digits-length (tests .2), rw digits-length (all-ext n same ∙ leading-are (drop 6 s)))
     where
       same : (i : ℕ) → i < n → isDigitAt (frontDigits s) i ≡ isDigitAt (drop 6 s) i
-      same = digit-take n (drop 6 s)
+      same i h = sym (digit-append (frontDigits s) (drop n (drop 6 s)) i (rw digits-length h)) ∙ ap (λ (t : List ℕ). isDigitAt t i) parted
 
   whole-line : s ≡ visualLineOf (frontDigits s) ++ drop (6 + n + 3) s
   unfolding visualLineOf
@@ -169,7 +164,7 @@ module _ (s : List ℕ) (some : frontSize s ≡ 0 → ⊥) where
       let closed : drop n (drop 6 s) ≡ cinCloses ++ drop (6 + n + 3) s =
       drop-drop n 6 s ∙ sym (take-append-drop 3 u) ∙ ap₂ (λ (a b : List ℕ). a ++ b) (tests .3) rest in
       let opened : drop 6 s ≡ frontDigits s ++ (cinCloses ++ drop (6 + n + 3) s) =
-      sym (take-append-drop n (drop 6 s)) ∙ ap (λ (l : List ℕ). frontDigits s ++ l) closed in
+      sym parted ∙ ap (λ (l : List ℕ). frontDigits s ++ l) closed in
       sym (take-append-drop 6 s) ∙ ap₂ (λ (a b : List ℕ). a ++ b) (tests .0) (opened ∙ sym (append-assoc (frontDigits s) cinCloses (drop (6 + n + 3) s)))
 
   front-read : BeginsWithLine s
@@ -180,7 +175,7 @@ module _ (s : List ℕ) (some : frontSize s ≡ 0 → ⊥) where
         digits = digits-good;
         size = rw digits-length e;
         whole = rw e whole-line;
-        number = rw digits-length (spelled-take n (drop 6 s));
+        number = rw digits-length (ap (spelled n) (sym parted) ∙ spelled-append n (frontDigits s) (drop n (drop 6 s)) digits-length);
       }
 
 -- the line ends within the text

@@ -1,4 +1,4 @@
--- The Card Identification Number (document 02, request 2): "A CIN is 1 to 10 ASCII decimal digits read as a number"; "23 where the entry is empty, over 10 digits or holds a non-digit".
+-- The Card Identification Number (document 02, request 2): "A CIN is 1 to 10 ASCII decimal digits read as a number"; and the entry of one.
 -- Assumes nothing.
 use mathlib.Core.Bool.{Bool, cond, _&&_}
 use mathlib.Core.List.{List}
@@ -25,11 +25,15 @@ cinOf d = spelled (length d) d
 
 -- ---- the entry
 
+-- "23 where the entry is empty, over 10 digits or holds a non-digit"
+abbrev pub badEntry : ℕ
+badEntry = 23
+
 -- 0 and the number typed, or 23 and no number (0).
 unfoldable pub entryOf : List ℕ → ℕ × ℕ
-entryOf typed = cond (cinDigits typed) (0, cinOf typed) (23, 0)
+entryOf typed = cond (cinDigits typed) (0, cinOf typed) (badEntry, 0)
 
 -- The answer of the code: document 02's number of each case, and the number typed beside it.
 abbrev pub entryAnswer : Entry → ℕ × ℕ
 entryAnswer (entries.Typed cin) = (0, cin .0)
-entryAnswer entries.Bad = (23, 0)
+entryAnswer entries.Bad = (badEntry, 0)

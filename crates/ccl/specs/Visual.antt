@@ -8,7 +8,7 @@ use lib.Dec.{eqb}
 use lib.ListN.{length, getD, take, drop}
 use Rattle.common.specs.Lists.{concat, passing, isIn, sameBytes}
 use Rattle.ccl.specs.Line.{closes}
-use Rattle.ccl.specs.Cin.{cinDigits, cinOf}
+use Rattle.ccl.specs.Cin.{cinDigits, cinOf, badEntry}
 use Rattle.ccl.specs.declared.visual.Lookup.{Lookup}
 use Rattle.ccl.specs.declared.visual.Lookup.the-variants as lookups
 use Rattle.ccl.specs.declared.visual.TypedLookup.{TypedLookup}
@@ -68,23 +68,27 @@ cinsIn text = map (λ l. cinOf (visualDigits l)) (textLines text)
 
 -- ---- a number looked up
 
+-- "24 for a malformed visual line anywhere in the text"
+abbrev pub malformedVisual : ℕ
+malformedVisual = 24
+
 -- Beside 0 the yes (1) or no (0), beside 24 the number of the first malformed line.
 unfoldable pub lookupOf : ℕ → List ℕ → ℕ × ℕ
-lookupOf cin text = cond (wellVisual text) (0, cond (isIn cin (cinsIn text)) 1 0) (24, goodVisuals text + 1)
+lookupOf cin text = cond (wellVisual text) (0, cond (isIn cin (cinsIn text)) 1 0) (malformedVisual, goodVisuals text + 1)
 
 -- The number typed; 23 is tested first, and beside it stands nothing (0).
 unfoldable pub typedOf : List ℕ → List ℕ → ℕ × ℕ
-typedOf typed text = cond (cinDigits typed) (lookupOf (cinOf typed) text) (23, 0)
+typedOf typed text = cond (cinDigits typed) (lookupOf (cinOf typed) text) (badEntry, 0)
 
 -- ---- the answers of the code: document 02's number of each case, and what stands beside it
 
 abbrev pub lookupAnswer : Lookup → ℕ × ℕ
 lookupAnswer lookups.Listed = (0, 1)
 lookupAnswer lookups.NotListed = (0, 0)
-lookupAnswer (lookups.Malformed n) = (24, n)
+lookupAnswer (lookups.Malformed n) = (malformedVisual, n)
 
 abbrev pub typedAnswer : TypedLookup → ℕ × ℕ
 typedAnswer typed-lookups.Listed = (0, 1)
 typedAnswer typed-lookups.NotListed = (0, 0)
-typedAnswer typed-lookups.BadEntry = (23, 0)
-typedAnswer (typed-lookups.Malformed n) = (24, n)
+typedAnswer typed-lookups.BadEntry = (badEntry, 0)
+typedAnswer (typed-lookups.Malformed n) = (malformedVisual, n)

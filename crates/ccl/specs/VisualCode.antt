@@ -8,7 +8,7 @@ use lib.ListN.{take, drop}
 use Rattle.common.specs.Lists.{sameBytes, passing}
 use Rattle.common.specs.Decimal.{isDigitAt, spelled}
 use Rattle.ccl.specs.Cin.{longestCin, cinOf}
-use Rattle.ccl.specs.Visual.{openingSize, closingSize, cinOpens, cinCloses, visualDigits, goodVisual}
+use Rattle.ccl.specs.Visual.{openingSize, closingSize, cinOpens, cinCloses, visualDigits, goodVisual, malformedVisual}
 
 -- How many digits s begins with, as far as one more than a CIN may have.
 unfoldable pub leadingDigits : List ℕ → ℕ
@@ -27,4 +27,4 @@ frontNumber s = spelled (leadingDigits (drop openingSize s)) (drop openingSize s
 -- The lines one after another, k lines being read and the number met among them or not.
 unfoldable pub passOver : ℕ → ℕ → Bool → List (List ℕ) → ℕ × ℕ
 passOver cin k met [] = (0, cond met 1 0)
-passOver cin k met (l ∷ ls) = cond (goodVisual l) (passOver cin (k + 1) (met || eqb cin (cinOf (visualDigits l))) ls) (24, k + 1)
+passOver cin k met (l ∷ ls) = cond (goodVisual l) (passOver cin (k + 1) (met || eqb cin (cinOf (visualDigits l))) ls) (malformedVisual, k + 1)

@@ -11,6 +11,9 @@ pub struct Cin(pub(crate) u64);
 // The most digits of a CIN; `longestCin` in the definitions.
 pub(crate) const LONGEST_CIN: usize = 10;
 
+// Document 02's number of an entry that is no CIN; `badEntry` in the definitions.
+pub const BAD_ENTRY: u8 = 23;
+
 // What read_entry answers: the CIN, or that the entry is none. `entryAnswer` gives document 02's number of each.
 pub enum Entry {
     Typed(Cin),

@@ -1,5 +1,6 @@
 // The Visual Cancelled Card List as text, lines `(cin (12345678))` each ended by 0A, and the yes or no for a typed number (document 02, request 2).
 use crate::cin;
+use crate::cin::BAD_ENTRY;
 use crate::cin::Cin;
 use crate::cin::Entry;
 use crate::cin::LONGEST_CIN;
@@ -9,6 +10,9 @@ ghost use lib.ListN.{take};
 ghost use Rattle.common.specs.Lists.{sameBytes};
 ghost use Rattle.ccl.specs.Visual.{openingSize, closingSize, cinOpens, cinCloses, lookupAnswer, lookupOf, typedAnswer, typedOf};
 ghost use Rattle.ccl.specs.VisualCode.{frontSize, frontNumber};
+
+// Document 02's number of a malformed line; `malformedVisual` in the definitions.
+pub const MALFORMED_VISUAL: u8 = 24;
 
 // What Cin::listed answers: whether the number is in the list, or the number of the first malformed line. `lookupAnswer` gives document 02's number of each.
 pub enum Lookup {
@@ -33,8 +37,8 @@ impl TypedLookup {
         match self {
             TypedLookup::Listed => 0,
             TypedLookup::NotListed => 0,
-            TypedLookup::BadEntry => 23,
-            TypedLookup::Malformed(_) => 24,
+            TypedLookup::BadEntry => BAD_ENTRY,
+            TypedLookup::Malformed(_) => MALFORMED_VISUAL,
         }
     }
 }

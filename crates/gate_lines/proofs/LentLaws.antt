@@ -23,8 +23,8 @@ use Rattle.gate_lines.specs.declared.state.State.{State}
 use Rattle.gate_lines.specs.declared.state.LineRun.{LineRun}
 
 -- the digits of a line are read whole into an array of half the longest line's size
-pub spelled : (s b : List ℕ) (n : ℕ) → length s ≤ longest → n ≡ min (length s / 2) (longest / 2) → b ≡ written (replicate (longest / 2) 0) 0 n (byteAt s) → take n b ≡ bytesIn s
-spelled s b n h e w =
+pub bytes-taken : (s b : List ℕ) (n : ℕ) → length s ≤ longest → n ≡ min (length s / 2) (longest / 2) → b ≡ written (replicate (longest / 2) 0) 0 n (byteAt s) → take n b ≡ bytesIn s
+bytes-taken s b n h e w =
     let k : n ≡ length s / 2 = e ∙ min-eq-left (omega (arith, h)) in
     rw (w, k) (front-bytes s (replicate (longest / 2) 0))
 

@@ -14,7 +14,7 @@ use Rattle.common.specs.Lists.{listOf, sliceOf, all}
 use Rattle.common.proofs.ListsLaws.{all-at, all-of, listOf-is, listOf-ext}
 use Rattle.common.specs.Decimal.{isDigitAt, spelled, digitsOf}
 use Rattle.common.proofs.DecimalLaws.{digit-least, digit-most, length-digitsOf, spelled-digits, spelled-small, front-spelled, spelled-append}
-use Rattle.common.proofs.TestLaws.{and-parts, and-both}
+use Rattle.common.proofs.TestLaws.{and-parts, and-both, by-case}
 use Rattle.text.specs.Hex.{bytesIn, hexOf}
 use Rattle.text.specs.Form.{between, betweenAt}
 use Rattle.text.proofs.HexLaws.{hex-bytes, bytes-small, length-bytes, length-hex, hex-is-hex, bytes-hex}
@@ -22,7 +22,7 @@ use Rattle.text.proofs.FormLaws.{between-at, between-mark}
 use Rattle.ccl.specs.Line.{space, goodCard, lineKey, cardText}
 use Rattle.ccl.proofs.LineLaws.{card-key, card-small, card-good, key-card}
 use Rattle.gate_lines.specs.Line.{GateLine, longest, openLowest, openHighest, answerOpens, verdictLowest, verdictHighest, hexFrom, headed, callIn, lineIn}
-use Rattle.gate_lines.specs.LineText.{openName, openText, verdictName, verdictText, withHex, textOfLine, Spelled, HasText}
+use Rattle.gate_lines.specs.LineText.{openName, openText, verdictName, verdictText, withHex, textOfLine, SomeBytes, HasText}
 use Rattle.gate_lines.proofs.LineLaws.{headed-room, headed-form, headed-hex, headed-parts, line-short}
 
 -- ---- digits
@@ -75,7 +75,7 @@ module _ (lo hi s : List ℕ) (good : headed lo hi s ≡ true) where
   text-back head e = rw (e, head-filled, hex-bytes (hexFrom (length lo) s) (headed-hex lo hi s good)) (headed-parts lo hi s good)
 
   -- HEX has a pair or more
-  bytes-back : Spelled (bytesIn (hexFrom (length lo) s))
+  bytes-back : SomeBytes (bytesIn (hexFrom (length lo) s))
   bytes-back = (rw (length-bytes (hexFrom (length lo) s)) (omega (arith, headed-room lo hi s good, length-hex-from (length lo) s (headed-room lo hi s good))), bytes-small (hexFrom (length lo) s))
 
   -- where the two strings have the lowest and the highest digit, a digit stands
@@ -98,11 +98,6 @@ verdict-filled s d e = rw (digits-back s 9 1 d, digits-back s 11 1 e)
 -- what a line's value and text are to each other
 abbrev ValueText : List ℕ → GateLine → Type 0
 ValueText s v = (v ≡ GateLine.bad → ⊥) → HasText v × (textOfLine v ≡ s)
-
--- a choice that has a property whichever way the test goes
-chosen : {A : Type 0} (P : A → Type 0) (b : Bool) {x y : A} → (b ≡ true → P x) → (b ≡ false → P y) → P (cond b x y)
-chosen P true f g = f refl
-chosen P false f g = g refl
 
 module _ (s : List ℕ) where
   open-text : headed openLowest openHighest s ≡ true → ValueText s (GateLine.opening (spelled 1 (drop 6 s)) (spelled 8 (drop 8 s)) (bytesIn (hexFrom 17 s)))
@@ -137,11 +132,11 @@ module _ (s : List ℕ) where
   value-text : ValueText s (lineIn s)
   unfolding lineIn callIn
   value-text =
-      chosen (ValueText s) (ltb longest (length s)) (λ e. bad-text)
-      (λ e. chosen (ValueText s) (goodCard s) card-text
-      (λ e. chosen (ValueText s) (headed openLowest openHighest s) open-text
-      (λ e. chosen (ValueText s) (headed answerOpens answerOpens s) answer-text
-      (λ e. chosen (ValueText s) (headed verdictLowest verdictHighest s) verdict-text (λ e. bad-text)))))
+      by-case (ValueText s) _ _ (ltb longest (length s)) (λ e. bad-text)
+      (λ e. by-case (ValueText s) _ _ (goodCard s) card-text
+      (λ e. by-case (ValueText s) _ _ (headed openLowest openHighest s) open-text
+      (λ e. by-case (ValueText s) _ _ (headed answerOpens answerOpens s) answer-text
+      (λ e. by-case (ValueText s) _ _ (headed verdictLowest verdictHighest s) verdict-text (λ e. bad-text)))))
 
 -- a line that is not bad is the text of its value, that value has a text, and the line is not too long
 pub text-read : (s : List ℕ) (v : GateLine) → lineIn s ≡ v → (v ≡ GateLine.bad → ⊥) → HasText v × (textOfLine v ≡ s) × (length s ≤ longest)
@@ -175,7 +170,7 @@ module _ (head bytes : List ℕ) where
   last-after =
       getD-at (head ++ hexOf bytes) 0x29 [] 0 (length (withHex head bytes) - 1) (length-append head (hexOf bytes) ∙ omega (arith, length-after, length-hex bytes))
 
-  bytes-after : Spelled bytes → bytesIn (hexFrom (length head) (withHex head bytes)) ≡ bytes
+  bytes-after : SomeBytes bytes → bytesIn (hexFrom (length head) (withHex head bytes)) ≡ bytes
   bytes-after w = ap bytesIn hex-after ∙ bytes-hex bytes (λ i h. w .1 i)
 
   headed-after : (lo hi : List ℕ) → between lo hi head ≡ true → 1 ≤ length bytes → headed lo hi (withHex head bytes) ≡ true
@@ -225,7 +220,7 @@ other-head lo hi s h q n = by (headed lo hi s) refl
 abbrev closed : List ℕ → List ℕ
 closed bytes = hexOf bytes ++ (0x29 ∷ [])
 
-open-parts : (mode date : ℕ) (aid : List ℕ) → mode < 10 → date < 10 ^ 8 → Spelled aid
+open-parts : (mode date : ℕ) (aid : List ℕ) → mode < 10 → date < 10 ^ 8 → SomeBytes aid
     → let s = withHex (openText mode date) aid in
     (spelled 1 (drop 6 s) ≡ mode) × (spelled 8 (drop 8 s) ≡ date) × (bytesIn (hexFrom 17 s) ≡ aid) × (getD s 1 0 ≡ 0x6F)
 unfolding withHex openText digitsOf listOf
@@ -236,7 +231,7 @@ open-parts mode date aid h k w = (
   refl,
 )
 
-verdict-parts : (kind yesNo : ℕ) (fascn : List ℕ) → kind < 10 → yesNo < 10 → Spelled fascn
+verdict-parts : (kind yesNo : ℕ) (fascn : List ℕ) → kind < 10 → yesNo < 10 → SomeBytes fascn
     → let s = withHex (verdictText kind yesNo) fascn in
     (spelled 1 (drop 9 s) ≡ kind) × (spelled 1 (drop 11 s) ≡ yesNo) × (bytesIn (hexFrom 13 s) ≡ fascn) × (getD s 1 0 ≡ 0x76)
 unfolding withHex verdictText digitsOf listOf

@@ -87,8 +87,8 @@ digits-printed n = by (ltb n 10) (ltb n 100)
     by false false = refl
 
 -- a buffer that has as many places as there are digits holds them and nothing else
-pub spelled : (s d : List ℕ) {x : List ℕ} {n : ℕ} → length d ≡ 2 * length s → n ≡ min (2 * length s) (length d)
+pub hex-stored : (s d : List ℕ) {x : List ℕ} {n : ℕ} → length d ≡ 2 * length s → n ≡ min (2 * length s) (length d)
     → x ≡ written d 0 n (hexDigitAt s) → x ≡ hexOf s
-spelled s d {x} {n} e k p =
+hex-stored s d {x} {n} e k p =
     let m : n ≡ 2 * length s = omega (arith, k) in
     rw m at p ∙ front-hex s d ∙ front-all (hexOf s) d (le-of-eq (e ∙ sym (length-hex s)))

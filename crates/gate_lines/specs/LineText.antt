@@ -37,12 +37,12 @@ textOfLine (GateLine.verdict kind yesNo fascn) = withHex (verdictText kind yesNo
 textOfLine GateLine.bad = []
 
 -- The values that have a text: each number has as many digits as its place, and there is a byte or more.
-abbrev pub Spelled : List ℕ → Type 0
-Spelled bytes = (1 ≤ length bytes) × Bytes bytes
+abbrev pub SomeBytes : List ℕ → Type 0
+SomeBytes bytes = (1 ≤ length bytes) × Bytes bytes
 
 abbrev pub HasText : GateLine → Type 0
 HasText (GateLine.card key) = key < keyLimit
-HasText (GateLine.opening mode date aid) = (mode < 10) × (date < 10 ^ 8) × Spelled aid
-HasText (GateLine.answer bytes) = Spelled bytes
-HasText (GateLine.verdict kind yesNo fascn) = (kind < 10) × (yesNo < 10) × Spelled fascn
+HasText (GateLine.opening mode date aid) = (mode < 10) × (date < 10 ^ 8) × SomeBytes aid
+HasText (GateLine.answer bytes) = SomeBytes bytes
+HasText (GateLine.verdict kind yesNo fascn) = (kind < 10) × (yesNo < 10) × SomeBytes fascn
 HasText GateLine.bad = ⊥

@@ -6,7 +6,7 @@ use Prim.Native.Nat.{ℕ, _+_}
 use lib.Dec.{eqb}
 use lib.ListN.{take, drop}
 use Rattle.bytes.specs.Bytes.{indexOf}
-use Rattle.ccl.specs.Visual.{typedOf}
+use Rattle.ccl.specs.Visual.{malformedVisual, typedOf}
 use Rattle.vectors.specs.Append.{numberText, refusalText}
 
 -- `yes`, `no`, and `refused 24 line N`
@@ -20,11 +20,11 @@ abbrev pub lineWord : List ℕ
 lineWord = 0x20 ∷ 0x6C ∷ 0x69 ∷ 0x6E ∷ 0x65 ∷ 0x20 ∷ []
 
 unfoldable pub malformedText : ℕ → List ℕ
-malformedText n = refusalText 24 ++ lineWord ++ numberText n
+malformedText n = refusalText malformedVisual ++ lineWord ++ numberText n
 
 -- By what it gives: document 02's number, and what stands beside it.
 unfoldable pub textOfLookup : ℕ × ℕ → List ℕ
-textOfLookup r = cond (eqb (r .0) 0) (cond (eqb (r .1) 1) yesWord noWord) (cond (eqb (r .0) 24) (malformedText (r .1)) (refusalText (r .0)))
+textOfLookup r = cond (eqb (r .0) 0) (cond (eqb (r .1) 1) yesWord noWord) (cond (eqb (r .0) malformedVisual) (malformedText (r .1)) (refusalText (r .0)))
 
 -- The line spells the entry, a byte 00, and the text of the list; where there is no 00, the entry alone.
 unfoldable pub lookedUpText : List ℕ → List ℕ

@@ -9,14 +9,14 @@ use Rattle.session.specs.Tables.{stampSize}
 use Rattle.text.specs.Hex.{hexOf}
 use Rattle.text.proofs.HexLaws.{length-hex}
 use Rattle.gate_lines.specs.Gate.{stampOpens, closing, stampText, textSize, textOf}
-use Rattle.gate_lines.proofs.ReplyTextLaws.{text-fits, text-with, spelled}
+use Rattle.gate_lines.proofs.ReplyTextLaws.{text-fits, text-with, hex-stored}
 use Rattle.gate_lines.proofs.reply.stamp_text.Statement.{statement}
 use Rattle.gate_lines.proofs.reply.stamp_text.Tie as tie
 
 -- the buffer has two places for a byte of the stamp, and holds the digits
 digits-are : (c : tie.After-write) → c .write .last .1 .0 ≡ hexOf (c .before .before .before .args .stamp .now)
 unfolding stampSize
-digits-are c = spelled (c .before .before .before .args .stamp .now) (replicate (2 * stampSize) 0) (omega arith) (c .write .ensures .0) (c .write .ensures .1)
+digits-are c = hex-stored (c .before .before .before .args .stamp .now) (replicate (2 * stampSize) 0) (omega arith) (c .write .ensures .0) (c .write .ensures .1)
 
 digits-long : (c : tie.After-write) → length (c .write .last .1 .0) ≡ 2 * stampSize
 unfolding stampSize

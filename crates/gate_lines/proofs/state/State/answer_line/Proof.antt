@@ -6,7 +6,7 @@ use lib.Seq.{length-take-le}
 use Rattle.text.specs.Hex.{bytesIn}
 use Rattle.session.specs.Operation.{given, commandOf, answerOf}
 use Rattle.gate_lines.specs.Gate.{commandRoom, gateAfter, replyTo}
-use Rattle.gate_lines.proofs.LentLaws.{spelled, lent, stepped}
+use Rattle.gate_lines.proofs.LentLaws.{bytes-taken, lent, stepped}
 use Rattle.gate_lines.proofs.state.State.answer_line.Statement.{statement}
 use Rattle.gate_lines.proofs.state.State.answer_line.Tie as tie
 
@@ -27,7 +27,7 @@ returns c =
     let a = start .args in
     let r = at-read .read in
     let ready : sent .result .session ≡ commandOf (a .self .session) commandRoom .2 = ap (λ x. x .2) (sent .ensures .0) in
-    let bytes = spelled (a .spelled .now) (r .last .1 .0) (r .result) (start .pre) (r .ensures .0) (r .ensures .1 .0) in
+    let bytes = bytes-taken (a .spelled .now) (r .last .1 .0) (r .result) (start .pre) (r .ensures .0) (r .ensures .1 .0) in
     let keys = lent (a .self .cards) (at-least .least .result) (a .cards .now) (at-least .least .ensures .0) in
     let got : given (answered .result) ≡ answerOf (sent .result .session) (a .object .now) (take (r .result) (r .last .1 .0)) (take (at-least .least .result) (a .cards .now)) = answered .ensures .0 in
     let e : given (answered .result) ≡ answerOf (commandOf (a .self .session) commandRoom .2) (a .object .now) (bytesIn (a .spelled .now)) (take (a .self .cards) (a .cards .now)) = rw (ready, bytes, keys) at got in

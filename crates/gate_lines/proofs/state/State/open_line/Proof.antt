@@ -4,14 +4,14 @@ use borrow.Author.Needs.{needs}
 use borrow.Author.Tests.{eq-eqb, ne-eqb}
 use Rattle.text.specs.Hex.{bytesIn}
 use Rattle.session.specs.Operation.{given, openOf}
-use Rattle.gate_lines.proofs.LentLaws.{spelled, stepped}
+use Rattle.gate_lines.proofs.LentLaws.{bytes-taken, stepped}
 use Rattle.gate_lines.proofs.state.State.open_line.Statement.{statement}
 use Rattle.gate_lines.proofs.state.State.open_line.Tie as tie
 
 opened-is : (c : tie.After-number) → let a = c .before .before .before .before .before .before .before .args in given (c .before .«open» .result) ≡ openOf (a .mode) (a .date) (bytesIn (a .spelled .now))
 opened-is c =
     let r = c .before .before .before .before .read in
-    rw (spelled (c .before .before .before .before .before .before .before .args .spelled .now) (r .last .1 .0) (r .result) (c .before .before .before .before .before .before .before .pre) (r .ensures .0) (r .ensures .1 .0)) at (c .before .«open» .ensures .0)
+    rw (bytes-taken (c .before .before .before .before .before .before .before .args .spelled .now) (r .last .1 .0) (r .result) (c .before .before .before .before .before .before .before .pre) (r .ensures .0) (r .ensures .1 .0)) at (c .before .«open» .ensures .0)
 
 number-is : (c : tie.After-number) → let a = c .before .before .before .before .before .before .before .args in c .number .result ≡ openOf (a .mode) (a .date) (bytesIn (a .spelled .now)) .0
 number-is c = c .number .ensures ∙ ap (λ x. x .0) (opened-is c)
