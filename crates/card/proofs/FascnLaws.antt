@@ -1,7 +1,7 @@
--- The laws of the FASC-N: what is packed unpacks to the same digits, and what unpacks packs to the same bytes.
+-- The laws of the FASC-N: an answer's number says its case; each character follows the rule; what is packed unpacks to the same digits, and what unpacks packs to the same bytes; the key.
 -- Assumes nothing.
 use mathlib.Core.Path.{_≡_, refl, sym, ap, _∙_}
-use mathlib.Core.Bool.{Bool, true, false, not, _&&_}
+use mathlib.Core.Bool.{Bool, true, false, cond, not, _&&_}
 use mathlib.Core.List.{List, [], _∷_}
 use Prim.Native.Nat.{ℕ, _^_, _<_}
 use native.Mathlib.Omega.{arith}
@@ -10,20 +10,22 @@ use lib.Dec.{eqb}
 use lib.ListN.{length, getD}
 use Rattle.common.specs.Lists.{all}
 use Rattle.common.specs.Refusal.{refusalOf}
-use Rattle.card.specs.Fascn.{valueAt, oddAt, valuesIn, bytesOf, digitsIn, marksIn, decimalAt, checkValue, valuesOf, unpackRefusal, unpackAnswer, unpackOf, packRefusal, packOf, keyOf}
+use Rattle.card.specs.Fascn.{charBitAt, valueAt, oddAt, ByRule, valuesIn, bytesOf, digitsIn, marksIn, decimalAt, checkValue, valuesOf, unpackRefusal, unpackAnswer, unpackOf, packRefusal, packOf, keyOf, unpackNumber}
 use Rattle.card.specs.FascnCode.{checkDigits}
-use Rattle.common.proofs.ListsLaws.{all-at, length-listOf}
+use Rattle.card.specs.declared.fascn.UnpackAnswer.{UnpackAnswer}
+use Rattle.card.specs.declared.fascn.UnpackAnswer.the-variants as unpack-answers
+use Rattle.common.proofs.ListsLaws.{all-at, length-listOf, getD-listOf, listOf-is}
 use Rattle.common.proofs.NumberLaws.{number-lt}
-use Rattle.card.proofs.CharacterLaws.{values-bytes, odd-bytes, bytes-values}
-use Rattle.card.proofs.OrderLaws.{marks-values, digits-values, value-check, values-mod, check-digits, values-digits}
+use Rattle.card.proofs.CharacterLaws.{odd-by-rule, bytes-by-rule, values-bytes, odd-bytes, bytes-values}
+use Rattle.card.proofs.OrderLaws.{marks-values, digits-values, value-check, length-valuesOf, values-small, check-digits, values-digits}
 
 length-values : (s : List ℕ) → length (valuesIn s) ≡ 40
 unfolding valuesIn
 length-values s = length-listOf 40 (valueAt s)
 
-length-bytes : (v : List ℕ) → length (bytesOf v) ≡ 25
+pub length-bytesOf : (v : List ℕ) → length (bytesOf v) ≡ 25
 unfolding bytesOf
-length-bytes v = length-listOf 25 _
+length-bytesOf v = length-listOf 25 _
 
 -- what unpack answers for 25 bytes, the check value taken of the digits
 abbrev pub by-digits : List ℕ → ℕ × List ℕ
@@ -44,6 +46,25 @@ unpack-is s e = go (marksIn (valuesIn s)) refl
     go : (m : Bool) → marksIn (valuesIn s) ≡ m → by-digits s ≡ unpackOf s
     go true p = rw (eq-eqb _ _ e, check-digits (valuesIn s) (length-values s) p)
     go false p = rw (eq-eqb _ _ e, p)
+
+-- ---- what unpack answers
+
+-- an answer's number says its case
+unpackCase : ℕ → UnpackAnswer
+unpackCase n =
+    cond (eqb n 0) unpack-answers.Accepted
+    (cond (eqb n 15) unpack-answers.WrongLength (cond (eqb n 16) unpack-answers.WrongParity (cond (eqb n 17) unpack-answers.OutOfPlace unpack-answers.WrongCheck)))
+
+case-is : (a : UnpackAnswer) → unpackCase (unpackNumber a) ≡ a
+unfolding unpackCase
+case-is unpack-answers.Accepted = refl
+case-is unpack-answers.WrongLength = refl
+case-is unpack-answers.WrongParity = refl
+case-is unpack-answers.OutOfPlace = refl
+case-is unpack-answers.WrongCheck = refl
+
+pub unpack-case : (a b : UnpackAnswer) → unpackNumber a ≡ unpackNumber b → a ≡ b
+unpack-case a b e = sym (case-is a) ∙ ap unpackCase e ∙ case-is b
 
 -- ---- what an accepted FASC-N passed
 
@@ -75,14 +96,27 @@ pub unpack-digits : (s : List ℕ) → unpackOf s .0 ≡ 0 → unpackOf s .1 ≡
 unfolding unpackOf
 unpack-digits s p = rw (eq-eqb _ _ p)
 
+-- ---- the rule of a character
+
+-- each character of a FASC-N packed from digits of at most 9 follows it, with the value that stands there
+pub packed-by-rule : (d : List ℕ) → all 32 (decimalAt d) ≡ true → (i : ℕ) → i < 40 → ByRule (getD (valuesOf d) i 0) (charBitAt (packOf d .1) i)
+unfolding packOf packRefusal
+packed-by-rule d h i l = rw h (bytes-by-rule (valuesOf d) (values-small d h) i l)
+
+-- and so does each of a FASC-N that unpacks
+pub unpacked-by-rule : (s : List ℕ) → unpackOf s .0 ≡ 0 → (i : ℕ) → i < 40 → ByRule (getD (valuesIn s) i 0) (charBitAt s i)
+unfolding valuesIn
+unpacked-by-rule s p i l = rw (getD-listOf 40 (valueAt s) i l) (odd-by-rule s i (all-at (oddAt s) 40 (well-formed s p .odd) i l))
+
 -- ---- the two round trips
 
 -- packed from 32 digits, it unpacks to those digits
 pub pack-unpack : (d : List ℕ) → length d ≡ 32 → all 32 (decimalAt d) ≡ true → unpackOf (packOf d .1) ≡ (0, d)
 unfolding packOf packRefusal unpackOf unpackRefusal
 pack-unpack d n h =
-    let v : valuesIn (bytesOf (valuesOf d)) ≡ valuesOf d = values-bytes (valuesOf d) ∙ values-mod d n h in
-    rw (h, eq-eqb _ _ (length-bytes (valuesOf d)), odd-bytes (valuesOf d), v, marks-values d, digits-values d n, h, eq-eqb _ _ (value-check d))
+    let small = values-small d h in
+    let v : valuesIn (bytesOf (valuesOf d)) ≡ valuesOf d = values-bytes (valuesOf d) small ∙ listOf-is 40 _ (valuesOf d) (length-valuesOf d) (λ i l. refl) in
+    rw (h, eq-eqb _ _ (length-bytesOf (valuesOf d)), odd-bytes (valuesOf d) small, v, marks-values d, digits-values d n, h, eq-eqb _ _ (value-check d))
 
 -- a FASC-N that unpacks packs to the same 25 bytes
 pub unpack-pack : (s : List ℕ) → ((k : ℕ) → k < 25 → getD s k 0 < 256) → unpackOf s .0 ≡ 0 → packOf (unpackOf s .1) ≡ (0, s)

@@ -1,10 +1,14 @@
 -- The laws of this crate's definitions, from the general to the particular. A crate above cites FascnLaws, TlvLaws, TemplateLaws, ObjectLaws, DateLaws and CommandLaws.
+-- RuleLaws: one character, and the rule that it follows
+pub mod RuleLaws
 -- CharacterLaws: bytes, characters and values
 pub mod CharacterLaws
 -- OrderLaws: values, digits and marks
 pub mod OrderLaws
 -- FascnLaws: the laws of unpack, pack, key and equality
 pub mod FascnLaws
+-- TurnedLaws: a FASC-N with one bit turned
+pub mod TurnedLaws
 -- TlvLaws: the header of a TLV
 pub mod TlvLaws
 -- EncoderLaws: what the encoder makes is read back, and what is read is what the encoder makes

@@ -15,7 +15,7 @@ use lib.Seq.{getD-append-add, getD-take, length-take-le, take-take, split-at}
 use Rattle.common.specs.Lists.{listOf, sliceOf, all, xorOf}
 use Rattle.card.specs.Fascn.{Piece, mark, field, order, valuesFrom, digitsFrom, marksFrom, digitsIn, marksIn, decimalAt, checkValue, valuesOf}
 use Rattle.card.specs.FascnCode.{charOf, charsOf, marksMapped, inOrder, marksOf, checkDigits}
-use Rattle.common.proofs.ListsLaws.{all-at, length-listOf, listOf-is, listOf-ext, listOf-append}
+use Rattle.common.proofs.ListsLaws.{all-at, length-listOf, getD-listOf, listOf-is, listOf-ext, listOf-append}
 use Rattle.common.proofs.XorLaws.{xor-assoc, xor-left-comm, xorOf-append, xorOf-lt}
 
 -- ---- runs
@@ -101,6 +101,11 @@ pub check-values : (d : List ℕ) → checkValue (valuesFrom 0 order d) ≡ chec
 unfolding checkValue checkDigits valuesFrom digitsFrom marksFrom size sliceOf listOf
 check-values d = xor-parts order 0 (valuesFrom 0 order d) refl
 
+-- 40 values
+pub length-valuesOf : (d : List ℕ) → length (valuesOf d) ≡ 40
+unfolding valuesOf valuesFrom sliceOf listOf
+length-valuesOf d = refl
+
 pub marks-values : (d : List ℕ) → marksIn (valuesOf d) ≡ true
 unfolding valuesOf valuesFrom marksFrom sliceOf listOf
 marks-values d = refl
@@ -117,6 +122,11 @@ values-are : (d : List ℕ) → valuesOf d ≡ valuesFrom 0 order d ++ (checkVal
 unfolding valuesOf
 values-are d = refl
 
+-- the first 32 digits alone matter
+values-first : (d : List ℕ) → valuesFrom 0 order (listOf 32 (λ k. getD d k 0)) ++ (checkValue (valuesFrom 0 order d) ∷ []) ≡ valuesOf d
+unfolding valuesOf valuesFrom sliceOf listOf
+values-first d = refl
+
 -- the low four bits of each value: of the marks, of the digits and of the check value
 each : (d : List ℕ) → listOf 40 (λ i. getD (valuesOf d) i 0 % 16)
     ≡ valuesFrom 0 order (listOf 32 (λ k. getD d k 0 % 16)) ++ (checkValue (valuesFrom 0 order d) % 16 ∷ [])
@@ -128,19 +138,24 @@ pub chars-in-order : (d : List ℕ) → inOrder (listOf 32 (λ k. charOf (getD d
 unfolding inOrder marksMapped charsOf valuesOf valuesFrom sliceOf listOf
 chars-in-order d = rw (← check-values d)
 
--- every value of decimal digits is below 16
-pub values-mod : (d : List ℕ) → length d ≡ 32 → all 32 (decimalAt d) ≡ true → listOf 40 (λ i. getD (valuesOf d) i 0 % 16) ≡ valuesOf d
+-- each value of decimal digits is its low four bits,
+values-mod : (d : List ℕ) → all 32 (decimalAt d) ≡ true → listOf 40 (λ i. getD (valuesOf d) i 0 % 16) ≡ valuesOf d
 unfolding checkDigits decimalAt marksOf xorOf
-values-mod d e h = each d ∙ ap₂ (λ (l : List ℕ) (x : ℕ). valuesFrom 0 order l ++ (x ∷ [])) same (mod-eq-of-lt check-lt) ∙ sym (values-are d)
+values-mod d h =
+    each d ∙ ap₂ (λ (l : List ℕ) (x : ℕ). valuesFrom 0 order l ++ (x ∷ [])) (listOf-ext 32 (λ k l. mod-eq-of-lt (small k l))) (mod-eq-of-lt check-lt) ∙ values-first d
   where
     small : (k : ℕ) → k < 32 → getD d k 0 < 16
     small k l = omega (arith, leb-true (getD d k 0) 9 (all-at (decimalAt d) 32 h k l))
 
-    same : listOf 32 (λ k. getD d k 0 % 16) ≡ d
-    same = listOf-is 32 _ d e (λ k l. mod-eq-of-lt (small k l))
-
     check-lt : checkValue (valuesFrom 0 order d) < 16
     check-lt = rw (check-values d) (xor-lt 4 (xorOf (marksOf order)) _ (lit< tt) (xorOf-lt 4 (λ k. getD d k 0) 32 small))
+
+-- so it is below 16
+pub values-small : (d : List ℕ) → all 32 (decimalAt d) ≡ true → (i : ℕ) → i < 40 → getD (valuesOf d) i 0 < 16
+values-small d h i l =
+    let e : getD (valuesOf d) i 0 % 16 ≡ getD (valuesOf d) i 0 =
+    sym (getD-listOf 40 (λ i. getD (valuesOf d) i 0 % 16) i l) ∙ ap (λ (v : List ℕ). getD v i 0) (values-mod d h) in
+    omega (arith, e)
 
 -- values with every mark in its place
 module _ (v : List ℕ) (long : length v ≡ 40) (placed : marksIn v ≡ true) where

@@ -1,10 +1,12 @@
--- FASC-N (document 01, section FASC-N, after documents 000 and 003, TIG SCEPACS): what 25 bytes mean, and what unpack, pack and key give.
+-- FASC-N (document 01, section FASC-N, after documents 000 and 003, TIG SCEPACS): what 25 bytes mean, and what unpack, pack and key give; the rule of a character, and a turned bit (document 02, request 3).
 -- Assumes nothing.
+use mathlib.Core.Path.{_≡_}
 use mathlib.Core.Bool.{Bool, true, cond, not, _&&_}
 use mathlib.Core.List.{List, [], _∷_, _++_}
-use Prim.Native.Nat.{ℕ, suc, _+_, _-_, _*_, _/_, _%_, _^_}
+use Prim.Native.Nat.{ℕ, suc, _+_, _-_, _*_, _/_, _%_, _^_, _<_}
+use lib.Bits.{bitXor}
 use lib.Dec.{eqb, ltb, leb}
-use lib.ListN.{length, getD, take, replicate}
+use lib.ListN.{length, getD, set, take, replicate}
 use Rattle.common.specs.Lists.{listOf, sliceOf, all, number, xorOf}
 use Rattle.common.specs.Refusal.{refusalOf}
 use Rattle.card.specs.declared.fascn.UnpackAnswer.{UnpackAnswer}
@@ -58,12 +60,33 @@ valuesIn s = listOf fascnCharacters (valueAt s)
 unfoldable pub charBit : ℕ → ℕ → ℕ
 charBit x j = cond (ltb j 4) (x / 2 ^ j % 2) ((1 + x % 2 + x / 2 % 2 + x / 4 % 2 + x / 8 % 2) % 2)
 
+-- Of five bits in the order sent, the value of the first four, lowest first, and the count of ones.
+abbrev pub fourBits : (ℕ → ℕ) → ℕ
+fourBits bit = bit 0 + 2 * bit 1 + 4 * bit 2 + 8 * bit 3
+
+abbrev pub ones : (ℕ → ℕ) → ℕ
+ones bit = bit 0 + bit 1 + bit 2 + bit 3 + bit 4
+
+-- The rule by itself, of a value x and five bits, against which both ways are proved: "four value bits, lowest first, then a bit making the count of ones odd".
+pub record ByRule (x : ℕ) (bit : ℕ → ℕ) : Type 0 where
+  pub binary : (j : ℕ) → j < 5 → bit j < 2
+  pub value : fourBits bit ≡ x
+  pub odd : ones bit % 2 ≡ 1
+
+-- Bit j of character i of the bytes s, in the order sent.
+abbrev pub charBitAt : List ℕ → ℕ → ℕ → ℕ
+charBitAt s i j = bitAt s (5 * i + j)
+
 -- Bit p of the characters with the values v, and the 25 bytes of these bits.
 unfoldable pub sentBit : List ℕ → ℕ → ℕ
 sentBit v p = charBit (getD v (p / 5) 0) (p % 5)
 
 unfoldable pub bytesOf : List ℕ → List ℕ
 bytesOf v = listOf fascnBytes (λ k. number 2 8 (λ j. sentBit v (8 * k + j)))
+
+-- The bytes s with bit p turned (document 02, request 3: "with any one bit turned").
+unfoldable pub turned : List ℕ → ℕ → List ℕ
+turned s p = set s (p / 8) (bitXor (getD s (p / 8) 0) (2 ^ (7 - p % 8)))
 
 -- ---- the order of marks and digits
 

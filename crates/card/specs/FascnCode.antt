@@ -41,6 +41,10 @@ valueChar c = c / 16 % 2 + 2 * (c / 8 % 2) + 4 * (c / 4 % 2) + 8 * (c / 2 % 2)
 unfoldable pub charOf : ℕ → ℕ
 charOf x = number 2 5 (charBit x)
 
+-- Bit j of the character c, in the order sent.
+abbrev pub bitIn : ℕ → ℕ → ℕ
+bitIn c j = c / 2 ^ (5 - suc j) % 2
+
 -- The 40 characters of the bytes s, and those of the FASC-N with the digits d.
 unfoldable pub charsIn : List ℕ → List ℕ
 charsIn s = listOf fascnCharacters (regrouped 8 5 s)

@@ -155,15 +155,24 @@ pub fn pack(d: [u8; DIGITS]) -> Packed
     }
 }
 
-// The key of the card with the digits d.
-pub fn key_of(d: [u8; DIGITS]) -> Key
-    ensures { λ r. ⌜ r .0 ≡ keyOf d ⌝ }
+// The key whose 16 digits are d.
+pub fn key_from(d: &[u8; KEY_DIGITS]) -> Key
+    ensures { λ r. ⌜ r .0 ≡ keyOf (now (d .entry)) ⌝ }
 {
     let mut n = 0u64;
     for k in 0..KEY_DIGITS {
         n = n * 10 + characters::wide(d[k]);
     }
     Key(n)
+}
+
+// The key of the card whose 32 digits are d.
+pub fn key_of(d: [u8; DIGITS]) -> Key
+    ensures { λ r. ⌜ r .0 ≡ keyOf d ⌝ }
+{
+    let mut first = [0u8; KEY_DIGITS];
+    order::copy_run(&mut first, 0, &d, 0, KEY_DIGITS);
+    key_from(&first)
 }
 
 // Two FASC-Ns are equal where all their bytes are.

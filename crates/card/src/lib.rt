@@ -1,5 +1,4 @@
 // The card's language (document 01): the FASC-N, TLVs, the SELECT answer's template, data objects, dates and commands.
-mod bytes;
 pub mod command;
 pub mod date;
 pub mod fascn;

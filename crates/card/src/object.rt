@@ -1,9 +1,9 @@
 // Data objects (document 01, section Objects): one TLV 53, whose value holds one-byte-tag fields, each once, in the order of the object's rows.
-use crate::bytes;
 use crate::date::DATE_DIGITS;
 use crate::fascn::counts::FASCN_BYTES;
 use crate::tlv;
 use crate::tlv::Header;
+use common::slice;
 ghost use mathlib.Core.Path.{_≡_};
 ghost use Prim.Native.Nat.{_+_, _≤_, _<_, _^_};
 ghost use lib.ListN.{length};
@@ -141,7 +141,7 @@ fn next_field(v: &[u8], base: usize, row: Row, at: usize) -> Field
         part: EMPTY,
         next: at,
     };
-    match tlv::header_of(bytes::rest(v, at)) {
+    match tlv::header_of(slice::after(v, at)) {
         Header::Whole {
             tag,
             nested: _,
@@ -206,7 +206,7 @@ pub fn parse(kind: Kind, s: &[u8]) -> Object
             nested: _,
             start,
             len,
-        } => fields(bytes::part(s, start, len), start, kind),
+        } => fields(slice::part(s, start, len), start, kind),
         Header::Malformed => Object {
             answer: ObjectAnswer::Malformed,
             parts: [EMPTY; FIELDS],

@@ -1,7 +1,7 @@
 // The SELECT answer (document 01, section Objects): one TLV 61, whose value is whole TLVs, nested ones too, and directly holds just one 4F.
-use crate::bytes;
 use crate::tlv;
 use crate::tlv::Header;
+use common::slice;
 ghost use mathlib.Core.Path.{_≡_};
 ghost use Rattle.card.specs.Template.{templateNumber, templateOf};
 ghost use Rattle.card.specs.TemplateCode.{noted, walked};
@@ -80,7 +80,7 @@ fn walk(s: &[u8], depth: usize) -> Walked
             nested,
             start,
             len,
-        } = tlv::next_header(bytes::rest(s, at))
+        } = tlv::next_header(slice::after(s, at))
         else {
             return BROKEN;
         };
@@ -109,7 +109,7 @@ pub fn template(s: &[u8]) -> TemplateAnswer
             start,
             len,
         } => {
-            let found = walk(bytes::part(s, start, len), LEVELS_LEFT);
+            let found = walk(slice::part(s, start, len), LEVELS_LEFT);
             if found.whole & (found.aids == 1) {
                 TemplateAnswer::Accepted
             } else {

@@ -15,10 +15,10 @@ use lib.Seq.{getD-at, take-at}
 use Rattle.common.specs.Lists.{listOf, sliceOf, all}
 use Rattle.card.specs.Fascn.{decimalAt, keyOf}
 use Rattle.common.proofs.ListsLaws.{all-at, all-of, all-ext, length-listOf, getD-listOf, listOf-is, listOf-ext}
-use Rattle.common.specs.Decimal.{isDigitAt, spelled, digitOf, digitsOf}
+use Rattle.common.specs.Decimal.{isDigitAt, digitValues, spelled, digitOf, digitsOf}
 use Rattle.common.proofs.TestLaws.{and-both}
 use Rattle.common.proofs.NumberLaws.{number-digit}
-use Rattle.common.proofs.DecimalLaws.{digit-least, digit-most, spelled-digits, spelled-small, digits-spelled}
+use Rattle.common.proofs.DecimalLaws.{digit-least, digit-most, number-values, spelled-digits, spelled-small, digits-spelled}
 use Rattle.text.specs.Form.{between, betweenAt}
 use Rattle.text.proofs.FormLaws.{between-at, between-mark}
 use Rattle.ccl.specs.Line.{keyLimit, cardOpens, space, between-groups, closes, cardText, lineOf, goodLine, goodCard, lineDigits, lineKey}
@@ -57,10 +57,14 @@ above : all 31 (λ i. ltb 0x0A (low i)) ≡ true
 unfolding lineOf cardText listOf digitOf all
 above = refl
 
+-- the key in a line is the number that its digits spell
+key-spelled : (s : List ℕ) → lineKey s ≡ spelled 16 (lineDigits s)
+unfolding lineKey keyOf
+key-spelled s = number-values 16 (lineDigits s)
+
 -- "what is written is read back"
 pub key-line : (key : ℕ) → key < keyLimit → lineKey (lineOf key) ≡ key
-unfolding lineKey
-key-line key h = rw (digits-line key) (spelled-digits 16 key ∙ mod-eq-of-lt h)
+key-line key h = rw (key-spelled, digits-line key) (spelled-digits 16 key ∙ mod-eq-of-lt h)
 
 -- ---- a good line
 
@@ -134,12 +138,10 @@ module _ (s : List ℕ) (good : goodLine s ≡ true) where
 
   -- "what is read is written back"
   pub line-key : lineOf (lineKey s) ≡ s
-  unfolding lineKey
-  line-key = line-from (lineKey s) ∙ ap lineFrom (digits-spelled 16 (lineDigits s) good-digits (rw (digits-at s) (length-listOf 16 (λ k. getD s (place k) 0)))) ∙ good-from
+  line-key = line-from (lineKey s) ∙ ap lineFrom (ap (digitsOf 16) (key-spelled s) ∙ digits-spelled 16 (lineDigits s) good-digits (rw (digits-at s) (length-listOf 16 (λ k. getD s (place k) 0)))) ∙ good-from
 
   pub key-small : lineKey s < keyLimit
-  unfolding lineKey
-  key-small = spelled-small 16 (lineDigits s) good-digits
+  key-small = rw (key-spelled s) (spelled-small 16 (lineDigits s) good-digits)
 
 -- ---- a card's text
 
@@ -175,7 +177,7 @@ card-line s = between-last (cardText 0) (cardText 9999999999999999) s 31 0x0A (l
 pub key-card-line : (s : List ℕ) → length s ≡ 31 → lineKey (s ++ (0x0A ∷ [])) ≡ lineKey s
 unfolding lineKey
 key-card-line s e =
-    ap (spelled 16) (digits-at (ended s 0x0A)
+    ap (λ (d : List ℕ). keyOf (digitValues d)) (digits-at (ended s 0x0A)
     ∙ listOf-ext 16 (λ k h. List·getD-append s (0x0A ∷ []) 0 (place k) (omega (arith, place-is k h)))
     ∙ sym (digits-at s))
 

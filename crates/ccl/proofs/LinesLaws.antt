@@ -5,10 +5,10 @@ use mathlib.Core.List.{List, [], _∷_, _++_, append-nil, append-assoc}
 use Prim.Native.Nat.{ℕ, _+_, _-_, _*_, _≤_, _<_}
 use native.Mathlib.Numerals.{add-one}
 use native.Mathlib.Omega.{arith}
-use lib.ListN.{length, getD, take, drop, length-append, length-drop}
+use lib.ListN.{length, getD, take, drop, length-append}
 use lib.Seq.{take-suc, length-take-le}
-use Rattle.common.specs.Lists.{overFront, overPlaces}
-use Rattle.common.proofs.ListsLaws.{over-next}
+use Rattle.common.specs.Lists.{overFront, overPlacesWhere}
+use Rattle.common.proofs.StoreLaws.{store-next}
 use Rattle.ccl.specs.Line.{lineOf}
 use Rattle.ccl.specs.ListText.{lineAt, linesOf}
 use Rattle.ccl.proofs.LineLaws.{length-line}
@@ -19,11 +19,6 @@ use Rattle.ccl.proofs.LineLaws.{length-line}
 pub part-line : (text : List ℕ) (i : ℕ) → take (32 * i + 32 - 32 * i) (drop (32 * i) text) ≡ lineAt text i
 unfolding lineAt
 part-line text i = let e : 32 * i + 32 - 32 * i ≡ 32 = omega arith in rw e
-
-pub length-part : (text : List ℕ) (i : ℕ) → 32 * i + 32 ≤ length text → length (take (32 * i + 32 - 32 * i) (drop (32 * i) text)) ≡ 32
-length-part text i h =
-    let e : 32 * i + 32 - 32 * i ≡ 32 = omega arith in
-    rw e (length-take-le 32 (drop (32 * i) text) (rw length-drop (omega arith)))
 
 -- ---- the text of keys
 
@@ -47,8 +42,8 @@ unfolding linesOf
 text-more keys i h = rw (add-one, take-suc keys i 0 h, text-append (take i keys) (getD keys i 0 ∷ []), append-nil)
 
 -- the text of the first i keys stands in front, and the line of key i is stored after it
-pub line-over : (keys d : List ℕ) (i : ℕ) {l s : List ℕ} → i < length keys → l ≡ overFront (linesOf (take i keys)) d → s ≡ lineOf (getD keys i 0)
-    → overPlaces l (32 * i) s ≡ overFront (linesOf (take (i + 1) keys)) d
-line-over keys d i h p q =
-    rw (text-more keys i h, q)
-    (over-next (linesOf (take i keys)) (lineOf (getD keys i 0)) d p (sym (length-first keys i (omega arith))))
+pub line-over : (keys d : List ℕ) (i : ℕ) {l s : List ℕ} → i < length keys → 32 * i + 32 ≤ length d → l ≡ overFront (linesOf (take i keys)) d
+    → s ≡ lineOf (getD keys i 0) → overPlacesWhere l (32 * i) s ≡ overFront (linesOf (take (i + 1) keys)) d
+line-over keys d i h room p q =
+    let e = length-first keys i (omega arith) in
+    rw (text-more keys i h, q) (store-next (linesOf (take i keys)) (lineOf (getD keys i 0)) d p (sym e) (rw (e, length-line) room))

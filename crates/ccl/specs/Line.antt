@@ -4,8 +4,8 @@ use mathlib.Core.Bool.{Bool, cond}
 use mathlib.Core.List.{List, [], _∷_, _++_}
 use Prim.Native.Nat.{ℕ, _+_, _-_, _^_}
 use Rattle.common.specs.Lists.{listOf, sliceOf}
-use Rattle.common.specs.Decimal.{spelled, digitOf}
-use Rattle.card.specs.Fascn.{keyLength}
+use Rattle.common.specs.Decimal.{digitValues, digitOf}
+use Rattle.card.specs.Fascn.{keyLength, keyOf}
 use Rattle.text.specs.Form.{between}
 use Rattle.ccl.specs.declared.line.CardKey.{CardKey}
 use Rattle.ccl.specs.declared.line.CardKey.the-variants.{Card, Malformed}
@@ -54,12 +54,12 @@ goodLine s = between (lineOf 0) (lineOf highestKey) s
 unfoldable pub goodCard : List ℕ → Bool
 goodCard s = between (cardText 0) (cardText highestKey) s
 
--- The bytes at the digits' places, and the number that they spell.
+-- The bytes at the digits' places, and the key whose digits they are.
 unfoldable pub lineDigits : List ℕ → List ℕ
 lineDigits s = sliceOf 7 4 s ++ sliceOf 12 4 s ++ sliceOf 17 6 s ++ sliceOf 26 1 s ++ sliceOf 28 1 s
 
 unfoldable pub lineKey : List ℕ → ℕ
-lineKey s = spelled keyLength (lineDigits s)
+lineKey s = keyOf (digitValues (lineDigits s))
 
 -- ---- the answer of the code: document 01's number of each case, and the key beside it
 

@@ -2,9 +2,10 @@
 ghost use mathlib.Core.Path.{_≡_};
 ghost use Prim.Native.Nat.{_<_};
 ghost use lib.ListN.{length};
-ghost use Rattle.common.specs.Decimal.{spelled, digitsOf};
+ghost use Rattle.common.specs.Decimal.{digitValues, digitsOf};
 ghost use Rattle.card.specs.Fascn.{keyLength};
 ghost use Rattle.ccl.specs.Line.{lineOf, lineDigits, lineKey, cardAnswer, cardOf};
+use card::fascn;
 use card::fascn::Key;
 use card::fascn::counts::KEY_DIGITS;
 use text::form;
@@ -21,40 +22,29 @@ pub enum CardKey {
     Malformed,
 }
 
-// The bytes at the places of the digits in a line, or in a line without its 0A.
-fn line_digits(s: &[u8]) -> [u8; KEY_DIGITS]
+// The values of the digits in a line, or in a line without its 0A.
+fn line_values(s: &[u8]) -> [u8; KEY_DIGITS]
     requires { ⌜ 28 < length (now s) ⌝ }
-    ensures { λ r. ⌜ r ≡ lineDigits (now (s .entry)) ⌝ }
+    ensures { λ r. ⌜ r ≡ digitValues (lineDigits (now (s .entry))) ⌝ }
 {
     [
-        s[7],
-        s[8],
-        s[9],
-        s[10],
-        s[12],
-        s[13],
-        s[14],
-        s[15],
-        s[17],
-        s[18],
-        s[19],
-        s[20],
-        s[21],
-        s[22],
-        s[26],
-        s[28],
+        s[7] % 16,
+        s[8] % 16,
+        s[9] % 16,
+        s[10] % 16,
+        s[12] % 16,
+        s[13] % 16,
+        s[14] % 16,
+        s[15] % 16,
+        s[17] % 16,
+        s[18] % 16,
+        s[19] % 16,
+        s[20] % 16,
+        s[21] % 16,
+        s[22] % 16,
+        s[26] % 16,
+        s[28] % 16,
     ]
-}
-
-// The key that 16 digits spell.
-fn key_spelled(d: &[u8; KEY_DIGITS]) -> Key
-    ensures { λ r. ⌜ r .0 ≡ spelled keyLength (now (d .entry)) ⌝ }
-{
-    let mut n: u64 = 0;
-    for k in 0..KEY_DIGITS {
-        n = n * 10 + (d[k] % 16) as u64;
-    }
-    Key(n)
 }
 
 // The key in a line, or in a line without its 0A.
@@ -62,8 +52,8 @@ pub(crate) fn line_key(s: &[u8]) -> Key
     requires { ⌜ 28 < length (now s) ⌝ }
     ensures { λ r. ⌜ r .0 ≡ lineKey (now (s .entry)) ⌝ }
 {
-    let d = line_digits(s);
-    key_spelled(&d)
+    let d = line_values(s);
+    fascn::key_from(&d)
 }
 
 // The key of a card's text, that is of a line without its 0A.

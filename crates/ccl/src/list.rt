@@ -1,14 +1,15 @@
 // A list as text, a line to a key, and as keys.
 ghost use mathlib.Core.Path.{_≡_};
-ghost use Prim.Native.Nat.{_+_, _*_, _/_, _≤_};
+ghost use Prim.Native.Nat.{_*_, _/_, _≤_};
 ghost use lib.ListN.{length};
-ghost use Rattle.common.specs.Lists.{overFront, written, overPlaces};
-ghost use Rattle.text.specs.Form.{between};
+ghost use Rattle.common.specs.Lists.{overFront, written};
 ghost use Rattle.ccl.specs.ListText.{lineSize, goodLines, keyAt, readAnswer, readOf, keysAfter, smallKeys, linesOf, writeAnswer, writeOf, textAfter};
 use crate::line;
 use crate::line::KEY_LIMIT;
 use crate::line::LINE;
 use card::fascn::Key;
+use common::slice;
+use text::form;
 
 // What read answers: how many keys, the number of the first malformed line, or that the places are too few. `readAnswer` gives document 01's number of each.
 pub enum ListRead {
@@ -50,18 +51,6 @@ impl ListWritten {
     }
 }
 
-// Whether the 32 bytes s are a list line; the two strings are the lines of the lowest and the highest key. There is no early exit.
-fn good_line(s: &[u8], lowest: &[u8; LINE], highest: &[u8; LINE]) -> bool
-    requires { ⌜ (length (now s) ≡ lineSize) × (length (now lowest) ≡ lineSize) × (length (now highest) ≡ lineSize) ⌝ }
-    ensures { λ r. ⌜ r ≡ between (now (lowest .entry)) (now (highest .entry)) (now (s .entry)) ⌝ }
-{
-    let mut ok = true;
-    for i in 0..LINE {
-        ok = ok & ((lowest[i] <= s[i]) & (s[i] <= highest[i]));
-    }
-    ok
-}
-
 // How many good lines the text begins with.
 fn good_lines(text: &[u8]) -> usize
     ensures { λ r. ⌜ r ≡ goodLines (now (text .entry)) ⌝ }
@@ -72,9 +61,10 @@ fn good_lines(text: &[u8]) -> usize
     let lines = text.len() / LINE;
     let mut n = 0;
     while n < lines {
+        // cut out by its places: the compiler then knows that it has as many bytes as the two strings
         let at = LINE * n;
         let end = at + LINE;
-        if !good_line(&text[at..end], lowest, highest) {
+        if !form::between(lowest, highest, &text[at..end]) {
             return n;
         }
         n += 1;
@@ -122,16 +112,6 @@ fn small_keys(keys: &[u64]) -> bool
     ok
 }
 
-// A line stored in out from place `at` on.
-fn put_line(out: &mut [u8], at: usize, line: &[u8; LINE])
-    requires { ⌜ (at + lineSize ≤ length (now out)) × (length (now line) ≡ lineSize) ⌝ }
-    ensures { λ r. ⌜ now (out .exit) ≡ overPlaces (now (out .entry)) at (now (line .entry)) ⌝ }
-{
-    for j in 0..LINE {
-        out[at + j] = line[j];
-    }
-}
-
 // The lines of the keys, stored at the front of out.
 fn put_lines(keys: &[u64], out: &mut [u8])
     requires { ⌜ length (now keys) ≤ length (now out) / lineSize ⌝ }
@@ -139,7 +119,7 @@ fn put_lines(keys: &[u64], out: &mut [u8])
 {
     for i in 0..keys.len() {
         let line = line::line_of(Key(keys[i]));
-        put_line(out, LINE * i, &line);
+        slice::store(out, LINE * i, &line);
     }
 }
 

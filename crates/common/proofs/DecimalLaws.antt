@@ -8,12 +8,17 @@ use native.Mathlib.Nat.{zero-add, zero-mul, pow-suc, pow-le-pow-right}
 use native.Mathlib.Omega.{arith}
 use borrow.Author.Tests.{leb-true, le-leb}
 use lib.Dec.{leb, lit<}
-use lib.ListN.{length, getD, List·getD-append}
+use lib.ListN.{length, getD, List·getD-append, List·getD-map}
 use Rattle.common.specs.Lists.{listOf, all, number}
-use Rattle.common.specs.Decimal.{isDigitAt, spelled, digitOf, digitsOf}
+use Rattle.common.specs.Decimal.{isDigitAt, digitValues, spelled, digitOf, digitsOf}
 use Rattle.common.proofs.TestLaws.{and-parts, and-both}
 use Rattle.common.proofs.ListsLaws.{all-at, all-of, getD-listOf, length-listOf, listOf-is, listOf-ext}
 use Rattle.common.proofs.NumberLaws.{number-ext, number-lt, number-digit, number-mod, number-more, number-append}
+
+-- what digits spell is the number of their values
+pub number-values : (n : ℕ) (s : List ℕ) → number 10 n (λ k. getD (digitValues s) k 0) ≡ spelled n s
+unfolding spelled
+number-values n s = number-ext 10 n (λ k h. List·getD-map (λ x. x % 16) s k 0)
 
 -- ---- the digits of a number
 

@@ -7,6 +7,8 @@ pub mod ListsLaws
 pub mod MemberLaws
 -- PassingLaws: how many tests pass before the first that does not
 pub mod PassingLaws
+-- LoopLaws: a loop that writes places of a list, and one that makes tests
+pub mod LoopLaws
 -- StoreLaws: a list stored in another
 pub mod StoreLaws
 -- PlaceLaws: the bytes before the first 0A

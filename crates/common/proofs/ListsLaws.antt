@@ -11,7 +11,7 @@ use native.Mathlib.Omega.{arith}
 use borrow.Author.Tests.{eqb-true, eq-eqb, ne-eqb}
 use lib.Dec.{eqb}
 use lib.ListN.{length, getD, set, take, drop, length-append, length-drop, take-append-drop, List·getD-append, length-take}
-use lib.Seq.{take-nil, drop-nil, drop-cons, drop-length, length-take-le, append-snoc, set-at, getD-at, ext-getD, take-at, drop-at, drop-drop, take-append-seam, drop-append-add, getD-append-add, getD-take, getD-drop}
+use lib.Seq.{take-nil, drop-nil, drop-cons, length-take-le, append-snoc, set-at, getD-at, ext-getD, take-at, drop-at, drop-drop, take-append-seam, drop-append-add, getD-append-add, getD-take, getD-drop}
 use Rattle.common.proofs.TestLaws.{clash}
 use Rattle.common.specs.Lists.{listOf, all, sameBytes, written, overFront, overPlaces}
 
@@ -44,6 +44,14 @@ all-not f (suc n) e = by (all n f) refl e (λ q. all-not f n q)
     by : (b : Bool) → all n f ≡ b → b && f n ≡ false → (all n f ≡ false → (i : ℕ) × (i < n) × (f i ≡ false)) → (i : ℕ) × (i < suc n) × (f i ≡ false)
     by true q h later = (n, le-refl (suc n), h)
     by false q h later = let x = later q in (x .0, le-step (x .1), x .2)
+
+-- and one that fails at one does not pass at each
+pub all-fails : (f : ℕ → Bool) (n i : ℕ) → i < n → f i ≡ false → all n f ≡ false
+all-fails f n i h e = by (all n f) refl
+  where
+    by : (b : Bool) → all n f ≡ b → b ≡ false
+    by true a = clash (sym e ∙ all-at f n a i h)
+    by false a = refl
 
 pub all-ext : (n : ℕ) {f g : ℕ → Bool} → ((i : ℕ) → i < n → f i ≡ g i) → all n f ≡ all n g
 unfolding all
@@ -149,14 +157,6 @@ written-on l n m f =
       listOf-append n m f,
     )
 
--- a loop that writes a list from its first place on: a turn, and the end
-pub front-more : (l : List ℕ) (n : ℕ) (f : ℕ → ℕ) {m : List ℕ} {x : ℕ} → n < length l → m ≡ written l 0 n f → x ≡ f n → set m n x ≡ written l 0 (n + 1) f
-front-more l n f h p q = rw zero-add at (written-more l 0 n f (rw zero-add h) p q)
-
-pub front-end : (l : List ℕ) (n : ℕ) (f : ℕ → ℕ) {m : List ℕ} → n ≡ length l → m ≡ written l 0 n f → m ≡ listOf (length l) f
-unfolding written
-front-end l n f e p = p ∙ rw (zero-add, e, drop-length, append-nil)
-
 -- ---- a list stored in another
 
 -- a list stored from the first place on stands in front
@@ -169,19 +169,12 @@ pub over-next : (p s d : List ℕ) {l : List ℕ} {n : ℕ} → l ≡ overFront 
 unfolding overFront overPlaces
 over-next p s d e k = rw (e, k, take-append-seam, drop-append-add, drop-drop, length-append)
 
--- a list written whole is stored
-pub written-over : (d s : List ℕ) (at : ℕ) → written d at (length s) (λ j. getD s (0 + j) 0) ≡ overPlaces d at s
-unfolding written overPlaces
-written-over d s at =
-    ap (λ (t : List ℕ). take at d ++ t ++ drop (at + length s) d)
-    (listOf-is (length s) (λ j. getD s (0 + j) 0) s refl (λ i b. ap (λ (j : ℕ). getD s j 0) (zero-add i)))
-
--- a list with another over its places, or over its front, is as long as it was
 -- no bytes stored change nothing
 pub over-none : (l : List ℕ) (at : ℕ) → overPlaces l at [] ≡ l
 unfolding overPlaces
 over-none l at = let z : at + 0 ≡ at = omega arith in rw (z, append-nil) (take-append-drop at l)
 
+-- a list with another over its places, or over its front, is as long as it was
 pub length-over : (l s : List ℕ) (at : ℕ) → at + length s ≤ length l → length (overPlaces l at s) ≡ length l
 unfolding overPlaces
 length-over l s at h = simp (length-append, length-take, length-drop) (omega arith)

@@ -1,7 +1,7 @@
 -- Decimal digits in ASCII: the number that they spell, and the digits of a number.
 -- Assumes nothing.
 use mathlib.Core.Bool.{Bool, _&&_}
-use mathlib.Core.List.{List}
+use mathlib.Core.List.{List, map}
 use Prim.Native.Nat.{ℕ, _+_, _-_, _/_, _%_, _^_}
 use lib.Dec.{leb}
 use lib.ListN.{getD}
@@ -11,7 +11,11 @@ use Rattle.common.specs.Lists.{listOf, number}
 unfoldable pub isDigitAt : List ℕ → ℕ → Bool
 isDigitAt s i = leb 0x30 (getD s i 0) && leb (getD s i 0) 0x39
 
--- The number that the first n bytes of s spell: the value of an ASCII digit is its low four bits.
+-- The values of ASCII digits: the low four bits of each.
+abbrev pub digitValues : List ℕ → List ℕ
+digitValues s = map (λ x. x % 16) s
+
+-- The number that the first n bytes of s spell, each by its value.
 unfoldable pub spelled : ℕ → List ℕ → ℕ
 spelled n s = number 10 n (λ j. getD s j 0 % 16)
 

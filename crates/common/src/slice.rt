@@ -1,4 +1,4 @@
-// What all crates do with slices of bytes: one byte, the first bytes and those that follow them, whether two are equal, where a byte stands, and bytes stored from a place on.
+// What all crates do with slices of bytes: one byte, the first bytes, those that follow them and those between, whether two are equal, where a byte stands, and bytes stored from a place on.
 use crate::number;
 ghost use mathlib.Core.Path.{_≡_};
 ghost use mathlib.Core.Bool.{not};
@@ -30,6 +30,13 @@ pub fn after(s: &[u8], n: usize) -> &[u8]
 {
     let from = number::least(s.len(), n);
     &s[from..]
+}
+
+// The n bytes from place `at` on, or as many as there are.
+pub fn part(s: &[u8], at: usize, n: usize) -> &[u8]
+    ensures { λ r. ⌜ now r ≡ take n (drop at (now (s .entry))) ⌝ }
+{
+    front(after(s, at), n)
 }
 
 // All bytes are equal, and there are as many. Every byte is looked at: there is no early exit.

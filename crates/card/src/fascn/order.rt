@@ -1,12 +1,12 @@
-// The order of a FASC-N: where its digits and marks stand among the 40 characters, and the check value.
-use crate::bytes;
+// The order of a FASC-N: where its digits and marks stand among the 40 characters, the check value, and a run of numbers copied.
 use crate::fascn::characters;
 use crate::fascn::counts::CHARACTERS;
 use crate::fascn::counts::CHECK_PLACE;
 use crate::fascn::counts::DIGITS;
 ghost use mathlib.Core.Path.{_≡_};
-ghost use lib.ListN.{getD};
-ghost use Rattle.common.specs.Lists.{listOf, all};
+ghost use Prim.Native.Nat.{_+_, _≤_};
+ghost use lib.ListN.{length, getD};
+ghost use Rattle.common.specs.Lists.{listOf, all, written};
 ghost use Rattle.card.specs.Fascn.{fascnDigits, digitsIn, marksIn, decimalAt};
 ghost use Rattle.card.specs.FascnCode.{charOf, inOrder, checkDigits, charsOf};
 
@@ -17,18 +17,28 @@ const FS: u8 = 13;
 
 const ES: u8 = 15;
 
+// The n bytes of src from place from on, stored in dst from place at on.
+pub(crate) fn copy_run(dst: &mut [u8], at: usize, src: &[u8], from: usize, n: usize)
+    requires { ⌜ (at + n ≤ length (now dst)) × (from + n ≤ length (now src)) ⌝ }
+    ensures { λ r. ⌜ now (dst .exit) ≡ written (now (dst .entry)) at n (λ j. getD (now (src .entry)) (from + j) 0) ⌝ }
+{
+    for j in 0..n {
+        dst[at + j] = src[from + j];
+    }
+}
+
 // The digits among the 40 values.
 pub(crate) fn digits_in(v: &[u8; CHARACTERS]) -> [u8; DIGITS]
     ensures { λ r. ⌜ r ≡ digitsIn (now (v .entry)) ⌝ }
 {
     let mut d = [0u8; DIGITS];
     // agency, system, credential, series, issue; then person, category, organisation and association, with no mark between
-    bytes::copy_run(&mut d, 0, v, 1, 4);
-    bytes::copy_run(&mut d, 4, v, 6, 4);
-    bytes::copy_run(&mut d, 8, v, 11, 6);
-    bytes::copy_run(&mut d, 14, v, 18, 1);
-    bytes::copy_run(&mut d, 15, v, 20, 1);
-    bytes::copy_run(&mut d, 16, v, 22, 16);
+    copy_run(&mut d, 0, v, 1, 4);
+    copy_run(&mut d, 4, v, 6, 4);
+    copy_run(&mut d, 8, v, 11, 6);
+    copy_run(&mut d, 14, v, 18, 1);
+    copy_run(&mut d, 15, v, 20, 1);
+    copy_run(&mut d, 16, v, 22, 16);
     d
 }
 
@@ -85,12 +95,12 @@ fn in_order(e: &[u8; DIGITS], ss: u8, fs: u8, es: u8, check: u8) -> [u8; CHARACT
     let mut c = [fs; CHARACTERS];
     c[0] = ss;
     // the runs of digits_in, the other way
-    bytes::copy_run(&mut c, 1, e, 0, 4);
-    bytes::copy_run(&mut c, 6, e, 4, 4);
-    bytes::copy_run(&mut c, 11, e, 8, 6);
-    bytes::copy_run(&mut c, 18, e, 14, 1);
-    bytes::copy_run(&mut c, 20, e, 15, 1);
-    bytes::copy_run(&mut c, 22, e, 16, 16);
+    copy_run(&mut c, 1, e, 0, 4);
+    copy_run(&mut c, 6, e, 4, 4);
+    copy_run(&mut c, 11, e, 8, 6);
+    copy_run(&mut c, 18, e, 14, 1);
+    copy_run(&mut c, 20, e, 15, 1);
+    copy_run(&mut c, 22, e, 16, 16);
     c[38] = es;
     c[CHECK_PLACE] = check;
     c

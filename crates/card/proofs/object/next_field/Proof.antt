@@ -13,7 +13,7 @@ use Rattle.card.proofs.object.next_field.Tie as tie
 
 -- the header of the arm
 whole-is : (c : tie.After-tag) → let x = c .tag .given .0 in Whole (x .0) (x .1 .0) (x .1 .1 .0) (x .1 .1 .1 .0) ≡ headerOf (drop (c .before .before .before .before .before .args .at) (c .before .before .before .before .before .args .v .now))
-whole-is c = known (c .tag .given .1) (c .before .before .header-of .ensures) (c .before .before .before .rest .ensures)
+whole-is c = known (c .tag .given .1) (c .before .before .header-of .ensures) (c .before .before .before .after .ensures)
 
 returns : tie.Need-returns
 returns c = let arm = c .before .before .before in let a = arm .before .before .before .before .before .args in (field-other (a .v .now) (a .base) (a .row) (a .at) (whole-is arm) (c .if1 .taken), omega arith)
@@ -26,7 +26,7 @@ returns-2 : tie.Need-returns-2
 returns-2 c = let arm = c .before .before .before .before .before in let a = arm .before .before .before .before .before .args in (field-found (a .v .now) (a .base) (a .row) (a .at) (whole-is arm) (c .before .before .if1 .left), field-fits arm)
 
 returns-3 : tie.Need-returns-3
-returns-3 c = let a = c .before .before .before .before .before .args in (field-none (a .v .now) (a .base) (a .row) (a .at) (known (c .enum-told .given .1) (c .before .before .header-of .ensures) (c .before .before .before .rest .ensures)), omega arith)
+returns-3 c = let a = c .before .before .before .before .before .args in (field-none (a .v .now) (a .base) (a .row) (a .at) (known (c .enum-told .given .1) (c .before .before .header-of .ensures) (c .before .before .before .after .ensures)), omega arith)
 
 pub next-field-spec : {M : Type 1} → statement M
 next-field-spec =

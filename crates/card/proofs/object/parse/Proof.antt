@@ -14,9 +14,6 @@ use Rattle.card.proofs.object.parse.Tie as tie
 whole-is : (c : tie.After-start) → let x = c .start .given .0 in Whole (x .0) (x .1 .0) (x .1 .1 .0) (x .1 .1 .1 .0) ≡ onlyOf dataObjectTag (c .before .before .before .before .args .s .now)
 whole-is c = sym (c .start .given .1) ∙ c .before .before .only .ensures
 
-part-requires : tie.Need-part-requires
-part-requires c κs = omega (arith, only-is dataObjectTag (c .before .before .before .before .before .args .s .now) (whole-is (c .before)) .2)
-
 fields-requires : tie.Need-fields-requires
 fields-requires c κs =
     let s = c .before .before .before .before .before .before .args .s .now in
@@ -34,4 +31,4 @@ returns-2 c = rw (← sym (c .enum-told .given .1) ∙ c .before .before .only .
 pub parse-spec : {M : Type 1} → statement M
 parse-spec =
     tie.close
-    (tie.spec (λ c κs. search needs) (λ c. search needs) part-requires fields-requires (λ c. search needs) returns returns-2)
+    (tie.spec (λ c κs. search needs) (λ c. search needs) (λ c κs. search needs) fields-requires (λ c. search needs) returns returns-2)

@@ -17,7 +17,7 @@ use Rattle.card.proofs.TemplateLaws.{walk-end, walk-deep, walk-bad, wal
 use Rattle.card.proofs.template.walk.Reads as walk
 use Rattle.card.proofs.template.walk.Kinds as walk-kinds
 use Rattle.card.proofs.template.+walk.Lts-walk as walk-lts
-use Rattle.card.proofs.bytes.rest.Reads as rest-reads
+use Rattle.common.proofs.slice.after.Reads as after-reads
 use Rattle.card.proofs.template.note.Reads as note-reads
 use Rattle.card.proofs.tlv.next_header.Reads as next-header-reads
 use Rattle.card.proofs.template.+walk.{statement}
@@ -42,7 +42,7 @@ abbrev μ-loop : walk-lts.MeasureT-loop
 abbrev Met : ℕ → Type 0
 Met t =
     walk-lts.After-known-told
-    (rest-reads.Asked, rest-reads.Learnt, next-header-reads.Asked, next-header-reads.Learnt, walk-below t, walk.Post, note-reads.Asked, note-reads.Learnt)
+    (after-reads.Asked, after-reads.Learnt, next-header-reads.Asked, next-header-reads.Learnt, walk-below t, walk.Post, note-reads.Asked, note-reads.Learnt)
     (walk-at t)
     walk.Post
     Inv-loop
@@ -50,7 +50,7 @@ Met t =
 
 met : (t : ℕ) (c : Met t) → let x = c .before .tag .given .0 in let at = c .before .before .before .before .before .before .before in
     Whole (x .0) (x .1 .0) (x .1 .1 .0) (x .1 .1 .1 .0) ≡ headerOf (drop (at .loop .at) (at .before .before .args .s .now))
-met t c = known (c .before .tag .given .1) (c .before .before .before .next-header .ensures) (c .before .before .before .before .rest .ensures)
+met t c = known (c .before .tag .given .1) (c .before .before .before .next-header .ensures) (c .before .before .before .before .after .ensures)
 
 -- it ends within s, after more than no bytes
 met-end : (t : ℕ) (c : Met t) → let x = c .before .tag .given .0 .1 .1 in let at = c .before .before .before .before .before .before .before in
@@ -69,7 +69,7 @@ pub +walk-spec : {M : Type 1} → statement M
 +walk-spec =
     close μ-walk λ t.
     walk-lts.spec
-    (rest-reads.Asked, rest-reads.Learnt, next-header-reads.Asked, next-header-reads.Learnt, walk-below t, walk.Post, note-reads.Asked, note-reads.Learnt)
+    (after-reads.Asked, after-reads.Learnt, next-header-reads.Asked, next-header-reads.Learnt, walk-below t, walk.Post, note-reads.Asked, note-reads.Learnt)
     (walk-at t)
     walk.Post
     Inv-loop
@@ -84,7 +84,7 @@ pub +walk-spec : {M : Type 1} → statement M
     let at = c .before .before .before .before .before .before in
     sym (at .loop .inv .1 ∙ walk-bad (at .before .before .args .s .now) _ _ _ (c .before .before .before .before .before .loop-test .taken)
     (c .before .before .before .before .if1 .left)
-    (known (c .enum-told .given .1) (c .before .before .next-header .ensures) (c .before .before .before .rest .ensures))))
+    (known (c .enum-told .given .1) (c .before .before .next-header .ensures) (c .before .before .before .after .ensures))))
     (λ c. omega (arith, met-end t c))
     (λ c. omega (arith, met-end t c))
     (λ c. search needs)

@@ -10,7 +10,7 @@ use Rattle.common.specs.Decimal.{digitOf}
 use Rattle.ccl.specs.Line.{goodLine, lineOf, cardText}
 use Rattle.ccl.specs.ListText.{lineAt, goodLines}
 use Rattle.common.proofs.PassingLaws.{passing-more, passing-stop}
-use Rattle.ccl.proofs.LinesLaws.{part-line, length-part}
+use Rattle.ccl.proofs.LinesLaws.{part-line}
 use Rattle.ccl.proofs.list.good_lines.Statement.{statement}
 use Rattle.ccl.proofs.list.good_lines.Tie as tie
 
@@ -24,22 +24,18 @@ loop-holds : tie.Need-loop-holds Inv-loop μ-loop
 unfolding passing
 loop-holds c = (search needs, refl)
 
-good-line-requires : tie.Need-good-line-requires Inv-loop μ-loop
-good-line-requires c κs =
-    (length-part (c .before .before .before .before .before .before .args .text .now) (c .before .before .loop .n) (omega arith), refl, refl)
-
 -- the two strings are the lines of the lowest and the highest key
-good-is : (c : tie.After-good-line Inv-loop μ-loop)
-    → goodLine (lineAt (c .before .before .before .before .before .before .before .args .text .now) (c .before .before .before .loop .n)) ≡ c .good-line .result
+good-is : (c : tie.After-between Inv-loop μ-loop)
+    → let at = c .before .before .before .before .before in goodLine (lineAt (at .before .before .before .before .args .text .now) (at .loop .n)) ≡ c .between .result
 unfolding goodLine lineOf cardText listOf digitOf
 good-is c =
-    let at = c .before .before .before in
-    rw (← part-line (at .before .before .before .before .args .text .now) (at .loop .n)) (sym (c .good-line .ensures))
+    let at = c .before .before .before .before .before in
+    rw (← part-line (at .before .before .before .before .args .text .now) (at .loop .n)) (sym (c .between .ensures))
 
 returns : tie.Need-returns Inv-loop μ-loop
 unfolding goodLines
 returns c =
-    let at = c .before .before .before .before in
+    let at = c .before .before .before .before .before .before in
     let text = at .before .before .before .before .args .text .now in (
       sym (passing-stop (λ i. goodLine (lineAt text i)) (at .loop .n) (length text / 32) (omega arith) (at .loop .inv .1) (good-is (c .before) ∙ not-true _ (c .if1 .taken))),
       omega arith,
@@ -47,7 +43,7 @@ returns c =
 
 loop-again : tie.Need-loop-again Inv-loop μ-loop
 loop-again c =
-    let at = c .before .before .before .before in
+    let at = c .before .before .before .before .before .before in
     let text = at .before .before .before .before .args .text .now in
     (omega arith, passing-more (λ i. goodLine (lineAt text i)) (at .loop .n) (at .loop .inv .1) (good-is (c .before) ∙ not-false _ (c .if1 .left)))
 
@@ -62,5 +58,5 @@ pub good-lines-spec : {M : Type 1} → statement M
 good-lines-spec =
     tie.close
     (tie.spec
-    Inv-loop μ-loop loop-holds (λ c. omega arith) (λ c. omega arith) (λ c. omega arith) (λ c. omega arith) (λ c. omega arith) good-line-requires returns
+    Inv-loop μ-loop loop-holds (λ c. omega arith) (λ c. omega arith) (λ c. omega arith) (λ c. omega arith) (λ c. omega arith) (λ c κs. search needs) returns
     (λ c. omega arith) (λ c. omega arith) loop-again returns-2)

@@ -8,7 +8,6 @@ use lib.Seq.{take-length}
 use Rattle.common.specs.Lists.{overFront}
 use Rattle.common.proofs.ListsLaws.{length-front}
 use Rattle.ccl.specs.ListText.{linesOf}
-use Rattle.ccl.proofs.LineLaws.{length-line}
 use Rattle.ccl.proofs.LinesLaws.{length-first, line-over}
 use Rattle.ccl.proofs.list.put_lines.Statement.{statement}
 use Rattle.ccl.proofs.list.put_lines.Tie as tie
@@ -29,11 +28,6 @@ length-out c =
     ap length (c .loop .inv .2)
     ∙ length-front (linesOf (take (c .loop .i) (a .keys .now))) (a .out .now) (rw (length-first (a .keys .now) (c .loop .i) (c .loop .inv .0)) (omega arith))
 
-put-line-requires : tie.Need-put-line-requires Inv-loop μ-loop
-put-line-requires c κs =
-    let at = c .before .before .before .before .before in
-    (omega (arith, length-out at), ap length (c .before .before .line-of .ensures) ∙ length-line _)
-
 loop-again : tie.Need-loop-again Inv-loop μ-loop
 loop-again c =
     let put = c .before .before in
@@ -41,7 +35,7 @@ loop-again c =
     let a = at .before .before .before .args in (
       search needs,
       at .loop .inv .1,
-      put .put-line .ensures ∙ line-over (a .keys .now) (a .out .now) (at .loop .i) (omega arith) (at .loop .inv .2) (put .before .before .before .line-of .ensures),
+      put .store .ensures ∙ line-over (a .keys .now) (a .out .now) (at .loop .i) (omega arith) (omega arith) (at .loop .inv .2) (put .before .before .before .line-of .ensures),
     )
 
 returns : tie.Need-returns Inv-loop μ-loop
@@ -55,5 +49,5 @@ pub put-lines-spec : {M : Type 1} → statement M
 put-lines-spec =
     tie.close
     (tie.spec
-    Inv-loop μ-loop loop-holds (λ c. search needs) (λ c. search needs) (λ c κs. search needs) (λ c. omega arith) put-line-requires
+    Inv-loop μ-loop loop-holds (λ c. search needs) (λ c. search needs) (λ c κs. search needs) (λ c. omega arith) (λ c. search needs) (λ c κs. search needs)
     (λ c. omega arith) (λ c. omega arith) loop-again (λ c. length-out (c .before)) returns)
