@@ -103,8 +103,8 @@ check-values d = xor-parts order 0 (valuesFrom 0 order d) refl
 
 -- 40 values
 pub length-valuesOf : (d : List ℕ) → length (valuesOf d) ≡ 40
-unfolding valuesOf valuesFrom sliceOf listOf
-length-valuesOf d = refl
+unfolding valuesOf
+length-valuesOf d = rw (length-append, length-before-check d)
 
 pub marks-values : (d : List ℕ) → marksIn (valuesOf d) ≡ true
 unfolding valuesOf valuesFrom marksFrom sliceOf listOf
