@@ -13,9 +13,9 @@ use borrow.Author.Tests.{eqb-true, eqb-false, ltb-true, ltb-false, lt-ltb, le-lt
 use lib.Dec.{eqb, ltb, lit<}
 use lib.ListN.{length, getD, take, drop, List·getD-eq-default, length-take, length-drop}
 use lib.Seq.{take-at, drop-append-add, take-add, take-all, take-take, take-length, getD-take, getD-drop}
-use Rattle.common.specs.Lists.{listOf, overFront, written}
+use Rattle.common.specs.Lists.{listOf, overFront}
 use Rattle.common.specs.Decimal.{digitOf}
-use Rattle.common.proofs.ListsLaws.{all-at, all-of, listOf-is, length-listOf, getD-listOf}
+use Rattle.common.proofs.ListsLaws.{all-at, all-of, listOf-is, front-written, length-listOf, getD-listOf}
 use Rattle.ccl.specs.Line.{keyLimit, cardText, lineOf, goodLine, lineKey}
 use Rattle.ccl.specs.ListText.{lineSize, lineAt, goodLines, wellFormed, keyAt, readRefusal, readOf, keysAfter, smallKeys, writeRefusal, writeOf, linesOf, textAfter}
 use Rattle.common.proofs.PassingLaws.{passing-is, passing-all}
@@ -66,8 +66,8 @@ module _ (keys : List ℕ) (small : smallKeys keys ≡ true) where
     read-text = rw (accepted, lines-text keys)
 
     pub keys-text : keysAfter (linesOf keys) out ≡ overFront keys out
-    unfolding keysAfter written overFront
-    keys-text = rw (accepted, lines-text keys, zero-add, listOf-is (length keys) (keyAt (linesOf keys)) keys refl key-text)
+    unfolding keysAfter
+    keys-text = rw (accepted, lines-text keys) (front-written out keys (length keys) (keyAt (linesOf keys)) (listOf-is (length keys) (keyAt (linesOf keys)) keys refl key-text))
 
 -- ---- the lines of a text and their keys
 

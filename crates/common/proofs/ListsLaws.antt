@@ -159,6 +159,11 @@ written-on l n m f =
 
 -- ---- a list stored in another
 
+-- a list written anew from its first place on has what was written in front
+pub front-written : (l s : List ℕ) (n : ℕ) (f : ℕ → ℕ) → listOf n f ≡ s → written l 0 n f ≡ overFront s l
+unfolding written overFront
+front-written l s n f e = rw (zero-add, ← e, length-listOf)
+
 -- a list stored from the first place on stands in front
 pub over-first : (d s : List ℕ) → overPlaces d 0 s ≡ overFront s d
 unfolding overFront overPlaces

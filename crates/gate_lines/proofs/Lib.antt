@@ -10,6 +10,7 @@
 -- InputLaws: the input cut into lines, in whatever blocks it arrives
 -- LinesLaws: lines put together, and cut again
 -- FeedLaws: a part of a block fed
+-- MergedListLaws: check 4 on two lists merged; it stands here since this crate has both the lists and the session
 pub mod LineLaws
 pub mod LineTextLaws
 pub mod ReplyTextLaws
@@ -21,3 +22,4 @@ pub mod AnswerLineLaws
 pub mod InputLaws
 pub mod LinesLaws
 pub mod FeedLaws
+pub mod MergedListLaws

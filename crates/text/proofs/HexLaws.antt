@@ -4,14 +4,13 @@ use mathlib.Core.Path.{_≡_, refl, ap, _∙_}
 use mathlib.Core.Bool.{Bool, true, false, cond, _&&_, and-eq-true-iff}
 use mathlib.Core.List.{List}
 use Prim.Native.Nat.{ℕ, _+_, _*_, _-_, _/_, _%_, _<_}
-use native.Mathlib.Nat.{zero-add}
 use native.Mathlib.Omega.{arith}
 use borrow.Author.Tests.{leb-true, ltb-true, ltb-false, eqb-true, eqb-false, lt-ltb, le-ltb, le-leb, lt-leb, eq-eqb, ne-eqb}
 use lib.Dec.{eqb, leb, ltb, lit<}
 use lib.ListN.{length, getD, take, List·getD-eq-default}
 use lib.Seq.{take-at}
 use Rattle.common.specs.Lists.{listOf, all, written, overFront}
-use Rattle.common.proofs.ListsLaws.{all-at, all-of, length-listOf, getD-listOf, listOf-is}
+use Rattle.common.proofs.ListsLaws.{all-at, all-of, length-listOf, getD-listOf, listOf-is, front-written}
 use Rattle.text.specs.Hex.{digitValue, isHex, byteAt, bytesIn, hexDigit, hexDigitAt, hexOf}
 
 -- ---- digits
@@ -168,5 +167,5 @@ unfolding written bytesIn
 front-bytes s out = take-at (listOf (length s / 2) (byteAt s)) _ (length s / 2) (length-listOf (length s / 2) (byteAt s))
 
 pub front-hex : (s out : List ℕ) → written out 0 (2 * length s) (hexDigitAt s) ≡ overFront (hexOf s) out
-unfolding written overFront hexOf
-front-hex s out = rw (zero-add, length-listOf (2 * length s) (hexDigitAt s))
+unfolding hexOf
+front-hex s out = front-written out (hexOf s) (2 * length s) (hexDigitAt s) refl

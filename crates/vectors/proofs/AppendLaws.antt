@@ -1,10 +1,11 @@
--- Texts added one after another to a lent buffer, and numbers in decimal.
+-- Texts added one after another to a lent buffer, also by a loop, and numbers in decimal.
 -- Assumes nothing.
 use mathlib.Core.Path.{_≡_, refl, sym, ap, ap₂, _∙_, subst}
 use mathlib.Core.Bool.{Bool, true, false, cond}
 use mathlib.Core.List.{List, [], _∷_, _++_, append-nil, append-assoc}
 use Prim.Native.Nat.{ℕ, zero, suc, _+_, _-_, _*_, _/_, _%_, _^_, _≤_, _<_, min, zero-le, suc-le-suc}
 use native.Mathlib.Nat.{le-of-eq, le-refl, zero-add, le-of-suc-le-suc, not-suc-le-zero, pow-suc, one-le-pow, pow-le-pow-right}
+use native.Mathlib.Numerals.{add-one}
 use native.Mathlib.Omega.{arith}
 use borrow.Author.Tests.{lt-ltb, le-ltb, leb-true, leb-false}
 use lib.Dec.{leb, lit≤}
@@ -15,7 +16,7 @@ use Rattle.common.specs.Lists.{listOf, written, overFront, overPlaces}
 use Rattle.common.proofs.ListsLaws.{length-listOf, listOf-append, length-front, take-most}
 use Rattle.text.specs.Hex.{hexDigitAt, hexOf}
 use Rattle.text.proofs.HexLaws.{length-hex}
-use Rattle.vectors.specs.Append.{added, Added, decimalLast}
+use Rattle.vectors.specs.Append.{added, Added, textsOf, decimalLast}
 
 -- ---- one text after another
 
@@ -74,12 +75,11 @@ inside b s at =
     let short : length (take (length b) (take at b ++ s)) ≤ length b = rw length-take (omega arith) in
     (short, length-front (take (length b) (take at b ++ s)) b short)
 
+added-long : {b0 b1 : List ℕ} {at n : ℕ} {s : List ℕ} → Added b0 at b1 n s → length b1 ≡ length b0
+added-long {b0} {at = at} {s = s} p = ap (λ (x : ℕ × List ℕ). length (x .1)) (p .is) ∙ inside b0 s at .1
+
 pub added-inside : {b0 b1 : List ℕ} {at n : ℕ} {s : List ℕ} → Added b0 at b1 n s → n ≤ length b1
-added-inside {b0} {b1} {at} {n} {s} p =
-    let i = inside b0 s at in
-    let e = ap (λ (x : ℕ × List ℕ). x .0) (p .is) in
-    let f = ap (λ (x : ℕ × List ℕ). length (x .1)) (p .is) in
-    omega (arith, i .0, i .1, e, f)
+added-inside {b0} {at = at} {s = s} p = let e = ap (λ (x : ℕ × List ℕ). x .0) (p .is) in omega (arith, inside b0 s at .0, e, added-long p)
 
 -- so that nothing more leaves all as it is: a loop begins there
 pub added-none : (b : List ℕ) (at : ℕ) → at ≤ length b → Added b at b at []
@@ -108,6 +108,28 @@ pub added-whole : {b0 b1 : List ℕ} {at n : ℕ} {s : List ℕ} → Added b0 at
 added-whole {b0} {b1} {at} {n} {s} p h =
     let e = ap (λ (x : ℕ × List ℕ). x .0) (p .is) in
     ap (λ (x : ℕ × List ℕ). take (x .0) (x .1)) (p .is) ∙ whole-of b0 s at (rw (← e) h)
+
+-- ---- a text a turn
+
+-- of the n texts f, the first i are added to the buffer b after its first `at` bytes, f 0 first; m bytes stand in the buffer d then
+pub record AddedSoFar (b : List ℕ) (at n : ℕ) (f : ℕ → List ℕ) (i : ℕ) (d : List ℕ) (m : ℕ) : Type 0 where
+  pub most : i ≤ n
+  pub long : length d ≡ length b
+  pub is : Added b at d m (textsOf i f)
+
+-- none is added yet; what stands in the buffer was added before
+pub adding-none : {a b : List ℕ} {at n m : ℕ} {s : List ℕ} {f : ℕ → List ℕ} → Added a at b m s → AddedSoFar b m n f 0 b m
+unfolding textsOf
+adding-none p = record { most = omega arith; long = refl; is = stays p }
+
+-- one more
+pub adding-more : {b d e : List ℕ} {at n i m k : ℕ} {f : ℕ → List ℕ} → AddedSoFar b at n f i d m → i < n → Added d m e k (f i) → AddedSoFar b at n f (i + 1) e k
+unfolding textsOf
+adding-more p h q = record { most = omega arith; long = added-long q ∙ p .long; is = rw add-one (p .is then q) }
+
+-- all n are added, after what was added before them
+pub adding-end : {a b d : List ℕ} {at n i m k : ℕ} {s : List ℕ} {f : ℕ → List ℕ} → Added a at b m s → AddedSoFar b m n f i d k → n ≤ i → Added a at d k (s ++ textsOf n f)
+adding-end {n = n} {i} p q h = let e : i ≡ n = omega (arith, q .most) in p then (rw e at (q .is))
 
 -- ---- how it is written
 

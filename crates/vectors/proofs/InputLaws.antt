@@ -4,13 +4,12 @@ use mathlib.Core.Path.{_≡_, refl, sym, ap, ap₂, _∙_, subst}
 use mathlib.Core.Bool.{Bool, true, false, cond}
 use mathlib.Core.List.{List, [], _∷_, _++_, append-nil, append-assoc}
 use Prim.Native.Nat.{ℕ, _+_, _-_, _≤_, _<_}
-use native.Mathlib.Nat.{zero-add}
 use native.Mathlib.Omega.{arith}
 use lib.Dec.{eqb}
 use lib.ListN.{length, getD, take, drop, length-drop, take-append-drop}
-use lib.Seq.{take-at, drop-at, take-add, take-all, getD-append-add, getD-drop, getD-take, length-take-le}
+use lib.Seq.{take-at, drop-at, take-add, take-all, getD-drop, getD-take, length-take-le}
 use Rattle.common.specs.Lists.{listOf, written, overFront, concat}
-use Rattle.common.proofs.ListsLaws.{length-listOf, listOf-is}
+use Rattle.common.proofs.ListsLaws.{length-listOf, listOf-is, front-written, front-after}
 use Rattle.bytes.specs.Bytes.{indexOf}
 use Rattle.common.proofs.PlaceLaws.{NoEnd, none-before, with-end}
 use Rattle.vectors.specs.FascnText.{codesText}
@@ -145,24 +144,16 @@ lines-all s from end e h f r =
 
 -- a byte past those that are written anew is as it was
 pub written-past : (b : List ℕ) (i k : ℕ) (f : ℕ → ℕ) → getD (written b 0 i f) (k + i) 0 ≡ getD b (k + i) 0
-unfolding written
 written-past b i k f =
-    let e : k + i ≡ length (listOf i f) + k = omega (arith, length-listOf i f) in
-    ap (λ (j : ℕ). getD (listOf i f ++ drop (0 + i) b) j 0) e ∙ getD-append-add (listOf i f) (drop (0 + i) b) k 0 ∙ getD-drop (0 + i) b k 0
-    ∙ ap (λ (j : ℕ). getD b j 0) (omega-sum i k)
-  where
-    omega-sum : (i k : ℕ) → 0 + i + k ≡ k + i
-    omega-sum i k = omega arith
+    ap (λ (l : List ℕ). getD l (k + i) 0) (front-written b (listOf i f) i f refl) ∙ front-after (listOf i f) b (k + i) (omega (arith, length-listOf i f))
 
 pub moved-is : (b : List ℕ) (from end : ℕ) → from ≤ end → end ≤ length b → written b 0 (end - from) (λ j. getD b (from + j) 0) ≡ moved b from end
-unfolding written overFront moved
+unfolding moved
 moved-is b from end h g =
     let n = end - from in
     let p = take n (drop from b) in
     let size : length p ≡ n = length-take-le n (drop from b) (rw length-drop (omega (arith, h, g))) in
-    let front : listOf n (λ j. getD b (from + j) 0) ≡ p =
-    listOf-is n (λ j. getD b (from + j) 0) p size (λ i l. sym (getD-take n (drop from b) i 0 l ∙ getD-drop from b i 0)) in
-    rw (front, zero-add, size)
+    front-written b p n (λ j. getD b (from + j) 0) (listOf-is n (λ j. getD b (from + j) 0) p size (λ i l. sym (getD-take n (drop from b) i 0 l ∙ getD-drop from b i 0)))
 
 -- the bytes before a part that is lent are as they were
 pub part-keeps : (b l r : List ℕ) (at : ℕ) → at ≤ length b → take at (take at b ++ (l ++ r)) ≡ take at b

@@ -10,8 +10,9 @@ use Rattle.vectors.specs.FascnText.{unpackText, packText}
 use Rattle.vectors.specs.ObjectText.{headerText, templateText, objectText, dateText, realText}
 use Rattle.vectors.specs.CommandText.{selectText, selectAgainText, getDataText, getResponseText, statusText}
 use Rattle.vectors.specs.VisualText.{lookedUpText}
+use Rattle.vectors.specs.MergeText.{mergeText}
 use Rattle.vectors.specs.declared.answer.VectorCall.{VectorCall}
-use Rattle.vectors.specs.declared.answer.VectorCall.the-variants.{Unknown, Unpack, Pack, Header, Template, Date, Real, Object, Select, SelectAgain, GetData, GetResponse, Status, Cin}
+use Rattle.vectors.specs.declared.answer.VectorCall.the-variants.{Unknown, Unpack, Pack, Header, Template, Date, Real, Object, Select, SelectAgain, GetData, GetResponse, Status, Cin, Merge}
 
 -- ---- the names
 
@@ -63,6 +64,8 @@ callRows =
     ∷ (0x73 ∷ 0x74 ∷ 0x61 ∷ 0x74 ∷ 0x75 ∷ 0x73 ∷ [], Status)
     -- cin
     ∷ (0x63 ∷ 0x69 ∷ 0x6E ∷ [], Cin)
+    -- merge
+    ∷ (0x6D ∷ 0x65 ∷ 0x72 ∷ 0x67 ∷ 0x65 ∷ [], Merge)
     ∷ []
 
 unfoldable pub callNamed : List ℕ → VectorCall
@@ -86,3 +89,4 @@ answerText (GetData kind room) s = getDataText kind room s
 answerText (GetResponse room) s = getResponseText room s
 answerText Status s = statusText s
 answerText Cin s = lookedUpText s
+answerText Merge s = mergeText s

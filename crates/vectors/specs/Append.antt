@@ -1,4 +1,4 @@
--- Text written into a lent buffer after what stands there, and numbers as text.
+-- Text written into a lent buffer after what stands there, texts one after another, and numbers as text.
 -- Assumes nothing.
 use mathlib.Core.Path.{_≡_}
 use mathlib.Core.Bool.{cond}
@@ -21,6 +21,13 @@ added l at s =
 pub record Added (before : List ℕ) (at : ℕ) (after : List ℕ) (count : ℕ) (text : List ℕ) : Type 0 where
   pub is : (count, after) ≡ added before at text
 
+-- ---- texts one after another
+
+-- f 0, f 1, .., f (n - 1)
+unfoldable pub textsOf : ℕ → (ℕ → List ℕ) → List ℕ
+textsOf zero f = []
+textsOf (suc n) f = textsOf n f ++ f n
+
 -- ---- numbers
 
 -- A number in decimal, without zeros in front: its last k digits where it has more.
@@ -34,7 +41,7 @@ numberText n = decimalLast 20 n
 
 -- ---- answers that more than one call gives
 
--- `refused N`: document 01's number of a refusal
+-- `refused N`: the number of a refusal in document 01 or 02
 abbrev pub refusalHead : List ℕ
 refusalHead = 0x72 ∷ 0x65 ∷ 0x66 ∷ 0x75 ∷ 0x73 ∷ 0x65 ∷ 0x64 ∷ 0x20 ∷ []
 

@@ -2,13 +2,13 @@
 -- Assumes nothing.
 use mathlib.Core.Bool.{Bool, cond, _||_}
 use mathlib.Core.List.{List, [], _∷_, _++_}
-use Prim.Native.Nat.{ℕ, zero, suc, _+_, _*_, _%_}
+use Prim.Native.Nat.{ℕ, _+_, _*_, _%_}
 use lib.Dec.{eqb}
 use lib.ListN.{length, getD, replicate}
 use Rattle.common.specs.Lists.{listOf}
 use Rattle.card.specs.Fascn.{fascnDigits, checkPlace, bitAt, unpackOf, packOf, keyOf}
 use Rattle.text.specs.Hex.{hexOf}
-use Rattle.vectors.specs.Append.{numberText, refusalText, noVector}
+use Rattle.vectors.specs.Append.{textsOf, numberText, refusalText, noVector}
 
 -- ---- unpack
 
@@ -19,9 +19,8 @@ opensField k = eqb k 4 || eqb k 8 || eqb k 14 || eqb k 15 || eqb k 16 || eqb k 2
 unfoldable pub digitText : ℕ → ℕ → List ℕ
 digitText k x = cond (opensField k) (0x20 ∷ (48 + x % 10) ∷ []) ((48 + x % 10) ∷ [])
 
-unfoldable pub spacedDigits : ℕ → List ℕ → List ℕ
-spacedDigits zero d = []
-spacedDigits (suc k) d = spacedDigits k d ++ digitText k (getD d k 0)
+abbrev pub spacedDigits : ℕ → List ℕ → List ℕ
+spacedDigits n d = textsOf n (λ k. digitText k (getD d k 0))
 
 -- The five bits of character i of the bytes s, in the order sent.
 unfoldable pub characterText : List ℕ → ℕ → List ℕ
@@ -71,9 +70,8 @@ unfoldable pub codeText : List ℕ → ℕ → ℕ → List ℕ
 codeText name x i = codeHead ++ name ++ sentAs ++ characterText (packOf (replicate fascnDigits x) .1) i ++ (0x0A ∷ [])
 
 -- The first n digits, each found as the first digit of a FASC-N.
-unfoldable pub digitCodes : ℕ → List ℕ
-digitCodes zero = []
-digitCodes (suc n) = digitCodes n ++ codeText ((48 + n) ∷ []) n 1
+abbrev pub digitCodes : ℕ → List ℕ
+digitCodes n = textsOf n (λ x. codeText ((48 + x) ∷ []) x 1)
 
 -- The 13 characters: the ten digits, then `Start Sentinel`, `Field Separator` and `End Sentinel`, found at their places.
 abbrev pub startName : List ℕ

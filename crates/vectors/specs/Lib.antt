@@ -1,7 +1,8 @@
 -- What the contracts of this crate mean.
--- Append: text written into a lent buffer after what stands there, and numbers as text
+-- Append: text written into a lent buffer after what stands there, texts one after another, and numbers as text
 -- FascnText, ObjectText, CommandText: the texts of the answers, by crate card's definitions
 -- VisualText: the text of the look-up of a typed number, by crate ccl's definitions
+-- MergeText: the text of the merge of two lists of keys, by crate ccl's definitions
 -- Answer: the calls by name, and the text of each one's answer
 -- Line: the parts of a line of the input, and the text that it gives
 -- Input: the bytes of the input cut into lines, and all that is printed
@@ -10,6 +11,7 @@ pub mod FascnText
 pub mod ObjectText
 pub mod CommandText
 pub mod VisualText
+pub mod MergeText
 pub mod Answer
 pub mod Line
 pub mod Input

@@ -2,7 +2,7 @@
 -- Assumes nothing.
 use mathlib.Core.Bool.{Bool, cond, _&&_}
 use mathlib.Core.List.{List, [], _∷_, _++_}
-use Prim.Native.Nat.{ℕ, zero, suc, _+_, _*_, _/_, _%_}
+use Prim.Native.Nat.{ℕ, _+_, _*_, _/_, _%_}
 use lib.Dec.{eqb, ltb}
 use lib.ListN.{length, getD}
 use Rattle.common.specs.Lists.{all, number}
@@ -16,7 +16,7 @@ use Rattle.card.specs.declared.object.Kind.{Kind}
 use Rattle.card.specs.declared.object.Kind.the-variants.{Signed, Unsigned, Fingers}
 use Rattle.card.specs.declared.object.Part.{Part}
 use Rattle.text.specs.Hex.{hexOf}
-use Rattle.vectors.specs.Append.{numberText, causeText, noVector}
+use Rattle.vectors.specs.Append.{textsOf, numberText, causeText, noVector}
 
 -- ---- TLVs
 
@@ -71,10 +71,9 @@ commaBefore i = cond (eqb i 0) [] (0x2C ∷ 0x20 ∷ [])
 unfoldable pub fieldText : Kind → List Part → ℕ → ℕ → List ℕ
 fieldText k parts i tag = commaBefore i ++ hexOf (tag ∷ []) ++ partText (partIn (rowsOf k) parts tag)
 
--- The fields with the first n of these tags.
-unfoldable pub fieldsText : Kind → List Part → List ℕ → ℕ → List ℕ
-fieldsText k parts tags zero = []
-fieldsText k parts tags (suc n) = fieldsText k parts tags n ++ fieldText k parts n (getD tags n 0)
+-- The fields with these tags.
+abbrev pub shownText : Kind → List Part → List ℕ → List ℕ
+shownText k parts tags = textsOf (length tags) (λ i. fieldText k parts i (getD tags i 0))
 
 -- The tags of the fields that are shown of an object: a row for each kind.
 unfoldable pub shownTags : Kind → List ℕ
@@ -83,9 +82,6 @@ shownTags Unsigned = fascnTag ∷ guidTag ∷ expiryTag ∷ []
 shownTags Fingers = fingersTag ∷ []
 
 -- The fields, or the cause by which the object is refused.
-abbrev pub shownText : Kind → List Part → List ℕ → List ℕ
-shownText k parts tags = fieldsText k parts tags (length tags)
-
 unfoldable pub objectText : Kind → List ℕ → List ℕ
 objectText k s = let o = objectOf k s in cond (eqb (o .0) 0) (shownText k (o .1) (shownTags k)) (causeText (o .0))
 

@@ -4,6 +4,7 @@
 // in the proofs of call_of and of answer a line each, and a proof of the function that writes the text.
 mod command;
 pub(crate) mod fascn;
+mod merge;
 mod object;
 mod visual;
 
@@ -33,6 +34,7 @@ pub(crate) enum VectorCall {
     GetResponse(usize),
     Status,
     Cin,
+    Merge,
 }
 
 // The call of a row where the name is the row's, else the other.
@@ -46,7 +48,8 @@ fn row(name: &[u8], word: &[u8], call: VectorCall, other: VectorCall) -> VectorC
 pub(crate) fn call_of(name: &[u8]) -> VectorCall
     ensures { λ r. ⌜ r ≡ callNamed (now (name .entry)) ⌝ }
 {
-    let c = row(name, b"cin", VectorCall::Cin, VectorCall::Unknown);
+    let c = row(name, b"merge", VectorCall::Merge, VectorCall::Unknown);
+    let c = row(name, b"cin", VectorCall::Cin, c);
     let c = row(name, b"status", VectorCall::Status, c);
     let c = row(name, b"shortgetresponse", VectorCall::GetResponse(4), c);
     let c = row(name, b"getresponse", VectorCall::GetResponse(6), c);
@@ -102,5 +105,6 @@ pub(crate) fn answer(out: &mut [u8], at: usize, call: VectorCall, s: &[u8]) -> u
         VectorCall::GetResponse(room) => command::add_get_response(out, at, room, s),
         VectorCall::Status => command::add_status(out, at, s),
         VectorCall::Cin => visual::add_looked_up(out, at, s),
+        VectorCall::Merge => merge::add_merge(out, at, s),
     }
 }
