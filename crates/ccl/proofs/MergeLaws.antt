@@ -2,7 +2,7 @@
 -- other list that ascends has the same keys; its count; what the call answers, and what it leaves in the places.
 -- Assumes nothing.
 use mathlib.Core.Path.{_≡_, refl, sym, ap, _∙_}
-use mathlib.Core.Bool.{Bool, true, false, cond, not, _||_, _&&_}
+use mathlib.Core.Bool.{Bool, true, false, cond, not, _||_, _&&_, or-true, or-false, or-assoc}
 use mathlib.Core.List.{List, [], _∷_}
 use Prim.Native.Nat.{ℕ, suc, _+_, _-_, _≤_, _<_}
 use native.Mathlib.Nat.{lt-irrefl}
@@ -12,7 +12,7 @@ use lib.Dec.{eqb, ltb}
 use lib.ListN.{length, getD, take, drop}
 use lib.Seq.{take-at, drop-at}
 use Rattle.common.specs.Lists.{all, overFront, isIn}
-use Rattle.common.proofs.TestLaws.{clash, and-parts, and-left, and-right, and-both, or-true, same-test}
+use Rattle.common.proofs.TestLaws.{clash, and-parts, and-left, and-right, and-both, same-test}
 use Rattle.common.proofs.ListsLaws.{all-front}
 use Rattle.common.proofs.ConditionLaws.{none-fit}
 use Rattle.ccl.specs.Merge.{ascending, merged, mergeRefusal, mergeOf, mergedAfter, mergeAnswer}
@@ -64,10 +64,6 @@ merged-either-way (x ∷ a) (y ∷ b) =
 
 -- ---- a key is in it exactly where it is in either
 
-or-first : (p q r : Bool) → p || (q || r) ≡ (p || q) || r
-or-first true q r = refl
-or-first false q r = refl
-
 or-second : (p q r : Bool) → p || (q || r) ≡ q || (p || r)
 or-second true q r = sym (or-true q)
 or-second false q r = refl
@@ -78,13 +74,9 @@ or-each false q r = refl
 
 pub in-merged : (key : ℕ) (a b : List ℕ) → isIn key (merged a b) ≡ isIn key a || isIn key b
 in-merged key [] b = rw (empty-merged b)
-in-merged key (x ∷ a) [] = rw (merged-empty (x ∷ a)) (or-none (isIn key (x ∷ a)))
-  where
-    or-none : (p : Bool) → p ≡ p || false
-    or-none true = refl
-    or-none false = refl
+in-merged key (x ∷ a) [] = rw (merged-empty (x ∷ a)) (sym (or-false (isIn key (x ∷ a))))
 in-merged key (x ∷ a) (y ∷ b) =
-    by-order x y (λ h. rw (merged-below x y a b h, in-merged key a (y ∷ b)) (or-first (eqb key x) (isIn key a) (isIn key (y ∷ b))))
+    by-order x y (λ h. rw (merged-below x y a b h, in-merged key a (y ∷ b)) (sym (or-assoc (eqb key x) (isIn key a) (isIn key (y ∷ b)))))
     (λ e. rw (merged-same x y a b e, in-merged key a b, e) (or-each (eqb key y) (isIn key a) (isIn key b)))
     (λ h. rw (merged-above x y a b h, in-merged key (x ∷ a) b) (or-second (eqb key y) (isIn key (x ∷ a)) (isIn key b)))
 

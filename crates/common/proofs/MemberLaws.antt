@@ -1,7 +1,7 @@
 -- A number in a list: it is found exactly where it stands at some place, so that neither order nor repeats matter; and what a loop over the places tells of it.
 -- Assumes nothing.
 use mathlib.Core.Path.{_≡_, refl, sym, ap, _∙_}
-use mathlib.Core.Bool.{Bool, true, false, not, _&&_, _||_}
+use mathlib.Core.Bool.{Bool, true, false, not, _&&_, _||_, or-true}
 use mathlib.Core.List.{List, [], _∷_}
 use Prim.Native.Nat.{ℕ, zero, suc, _<_, zero-le, suc-le-suc}
 use native.Mathlib.Nat.{not-suc-le-zero, le-of-suc-le-suc}
@@ -9,7 +9,7 @@ use borrow.Author.Tests.{eqb-true, eq-eqb}
 use lib.Dec.{eqb}
 use lib.ListN.{length, getD}
 use Rattle.common.specs.Lists.{all, isIn}
-use Rattle.common.proofs.TestLaws.{clash, or-true, same-test}
+use Rattle.common.proofs.TestLaws.{clash, same-test}
 use Rattle.common.proofs.ListsLaws.{all-front}
 
 -- where the number stands

@@ -32,10 +32,6 @@ pub or-right : (a b : Bool) → a || b ≡ false → b ≡ false
 or-right true b e = clash (rw e)
 or-right false b e = e
 
-pub or-true : (a : Bool) → a || true ≡ true
-or-true true = refl
-or-true false = refl
-
 -- two tests that pass together
 pub same-test : (a b : Bool) → (a ≡ true → b ≡ true) → (b ≡ true → a ≡ true) → a ≡ b
 same-test true b f g = sym (f refl)

@@ -1,4 +1,4 @@
--- Text that grows at its end: a list stored right after the bytes that count, the parts of a text, and digits.
+-- Text that grows at its end: the parts of a text, how long a text is, and digits.
 -- Assumes nothing.
 use mathlib.Core.Path.{_≡_, refl, sym, ap, ap₂, _∙_}
 use mathlib.Core.Bool.{Bool, true, false, cond}
@@ -7,9 +7,9 @@ use Prim.Native.Nat.{ℕ, _+_, _*_, _/_, _≤_, min}
 use native.Mathlib.Nat.{le-of-eq}
 use native.Mathlib.Omega.{arith}
 use lib.Dec.{ltb}
-use lib.ListN.{length, take, replicate, length-append, length-replicate}
-use lib.Seq.{take-at, length-take-le}
-use Rattle.common.specs.Lists.{overFront, overPlaces, written}
+use lib.ListN.{length, replicate, length-append, length-replicate}
+use lib.Seq.{take-at}
+use Rattle.common.specs.Lists.{overFront, written}
 use Rattle.common.proofs.ListsLaws.{over-next, length-front}
 use Rattle.session.specs.Tables.{stampSize}
 use Rattle.common.proofs.StoreLaws.{front-all}
@@ -20,15 +20,6 @@ use Rattle.gate_lines.specs.GateCode.{textWith, TextFits, unprinted, pri
 use Rattle.gate_lines.specs.declared.state.Text.{Text}
 use Rattle.gate_lines.specs.declared.state.LineReply.{LineReply}
 use Rattle.gate_lines.specs.declared.state.LineReply.the-variants.{Ok, Refused, Bad}
-
--- ---- bytes stored after the first n
-
-length-kept : (b s : List ℕ) (n : ℕ) → n + length s ≤ length b → length (take n b ++ s) ≡ n + length s
-length-kept b s n h = rw (length-append, length-take-le n b (omega arith))
-
-pub over-after : (b s : List ℕ) (n : ℕ) → n + length s ≤ length b → take (n + length s) (overPlaces b n s) ≡ take n b ++ s
-unfolding overPlaces
-over-after b s n h = take-at (take n b ++ s) _ (n + length s) (length-kept b s n h)
 
 -- ---- a text made of parts
 

@@ -1,7 +1,7 @@
 -- Cards that correct the length (document 02, request 1), said of lists of calls: what a 6C does, by the answer that was taken before it, and what any other status word does.
 -- Assumes nothing.
 use mathlib.Core.Path.{_≡_, refl, sym, _∙_}
-use mathlib.Core.Bool.{Bool, true, false, cond}
+use mathlib.Core.Bool.{Bool, true, false, cond, or-true}
 use mathlib.Core.List.{List, [], _∷_, _++_, append-nil}
 use Prim.Native.Nat.{ℕ, _+_, _-_}
 use native.Mathlib.Omega.{arith}
@@ -18,7 +18,7 @@ use Rattle.session.specs.Tables.{statusCause, ends, kindAt, capacity, Ne
 use Rattle.session.specs.Reading.{Opening, Arguments, Reading, begins, withProgress, nextCommand, sending, commandRefused, answerRefused, verdictRefused, verdictTaken, stopped, continued, goodEnd, judged, appended, causeBy, answerTaken, refusedBy, read, reading, takes}
 use Rattle.session.specs.Operation.{placeOf, causeIn, answerTakenBuffer}
 use Rattle.session.specs.declared.state.Session.{Session}
-use Rattle.common.proofs.TestLaws.{clash, or-true, by-case, by-and, either}
+use Rattle.common.proofs.TestLaws.{clash, by-case, by-and, either}
 use Rattle.common.proofs.ListsLaws.{over-none}
 use Rattle.session.proofs.SendLaws.{command-length}
 use Rattle.session.proofs.RuleLaws.{rule-in-range, joined-in-range}
