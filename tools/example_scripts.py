@@ -111,16 +111,39 @@ TODAY = "20240715"
 EXPIRY = "20281130"
 
 
-def signed(card=SAMPLE, expiry=EXPIRY, signature=some_bytes(32), form="short"):
-    """Object 5FC102."""
-    return tlv("53", tlv("30", card, form) + tlv("34", GUID, form) + tlv("35", date_bytes(expiry), form)
-               + tlv("3E", signature, form) + tlv("FE", "", form), form)
+# Values of the older elements (document 003, figures 1 and 2): agency code, organization identifier, DUNS.
+# 97AS is document 003's example of a code with letters (6.4.2).
+AGENCY_CODE = "97AS".encode("ascii").hex().upper()
+ORGANIZATION = "70AC".encode("ascii").hex().upper()
+DUNS = "081234567".encode("ascii").hex().upper()
+ALL_FOUR = ("EE", "31", "32", "33")
 
 
-def unsigned(card=SAMPLE, expiry=EXPIRY, guid="", form="short"):
-    """Object 5FC104; field 34 only where a GUID is given."""
-    return tlv("53", tlv("30", card, form) + (tlv("34", guid, form) if guid else "")
-               + tlv("35", date_bytes(expiry), form) + tlv("FE", "", form), form)
+def low_first(count):
+    """Two bytes, the low one first, as in document 003's buffer length (3.1)."""
+    return "%02X%02X" % (count % 256, count // 256)
+
+
+def older_after_30(older, form):
+    """Those of 31, 32 and 33 that are named."""
+    return "".join(tlv(tag, value, form) for tag, value in (("31", AGENCY_CODE), ("32", ORGANIZATION), ("33", DUNS)) if tag in older)
+
+
+def object_of(fields, older, form):
+    """Tag 53 and the fields; before them, where it is named, EE with the count of the bytes that follow it."""
+    return tlv("53", (tlv("EE", low_first(len(fields) // 2), form) if "EE" in older else "") + fields, form)
+
+
+def signed(card=SAMPLE, expiry=EXPIRY, signature=some_bytes(32), form="short", older=()):
+    """Object 5FC102; of the older elements those that are named."""
+    return object_of(tlv("30", card, form) + older_after_30(older, form) + tlv("34", GUID, form) + tlv("35", date_bytes(expiry), form)
+                     + tlv("3E", signature, form) + tlv("FE", "", form), older, form)
+
+
+def unsigned(card=SAMPLE, expiry=EXPIRY, guid="", form="short", older=()):
+    """Object 5FC104; field 34 only where a GUID is given, of the older elements those that are named."""
+    return object_of(tlv("30", card, form) + older_after_30(older, form) + (tlv("34", guid, form) if guid else "")
+                     + tlv("35", date_bytes(expiry), form) + tlv("FE", "", form), older, form)
 
 
 def fingers(value=some_bytes(48, 5), end=True):
@@ -401,11 +424,12 @@ script("signature_1_byte_granted", "a field 3E of 1 byte", "3E (1 to 2,816)",
        [ok(opening(1))] + select() + whole(signed(signature="00")) + yes(1, 2), GRANTED_1)
 script("signature_300_bytes_granted", "a field 3E of 300 bytes", "3E (1 to 2,816)",
        [ok(opening(1))] + select() + pieces(signed(signature=some_bytes(300)), 256) + yes(1, 2), GRANTED_1)
-longest = signed(signature=some_bytes(2816), form="82")
-assert len(longest) == 2 * 2889
-script("signature_2816_bytes_granted", "the longest signed object there is: 3E of 2,816 bytes, every length with 82, 2,889 bytes in all",
+longest_without = signed(signature=some_bytes(2816), form="82")
+assert len(longest_without) == 2 * 2889
+script("signature_2816_bytes_granted",
+       "the longest signed object without the older elements: 3E of 2,816 bytes, every length with 82, 2,889 bytes in all",
        "3E (1 to 2,816)",
-       [ok(opening(1))] + select() + pieces(longest, 256) + yes(1, 2), GRANTED_1)
+       [ok(opening(1))] + select() + pieces(longest_without, 256) + yes(1, 2), GRANTED_1)
 script("fingers_1_byte_granted", "a field BC of 1 byte", "BC (1 to 862)",
        [ok(opening(3))] + select() + whole(signed()) + whole(fingers("7E")) + yes(1, 2, 4), stamp(3, GRANTED, 0, 3, "222202"))
 script("fingers_862_bytes_granted", "a field BC of 862 bytes", "BC (1 to 862)",
@@ -978,6 +1002,226 @@ script("cause_1_every_check_fails", "mode 4: a no, another card, expired, cancel
        stamp(4, REJECTED, 1, 3, "343343", expiry="20240714"))
 script("cause_5_lowest_of_two", "mode 4: kind 3 of another card and a no of kind 4", LOWEST,
        ALL_READ_4 + yes(1, 2) + [ok(verdict(4, 0))] + yes(3, card=OTHER), stamp(4, REJECTED, 5, 3, "222243"))
+
+# ------------------------------------------------------ the older elements
+group("Objects with the older elements")
+
+BEFORE_30 = "EE with 2 bytes may stand before 30"
+AFTER_30 = "Straight after 30 may stand 31 (4 bytes), 32 (4) and 33 (9)"
+ONCE = "in this order, each at most once"
+NOT_USED = "They are checked for place and length and not used"
+SAME_FOUR = "The unsigned object gains the same four"
+WELL_FORMED = "A finding treats such an object as well formed"
+NOT_OPENED = "Fields of data objects aren't opened further"
+GRANTED_2 = stamp(2, GRANTED, 0, 3, "002220")
+F31, F32, F33 = tlv("31", AGENCY_CODE), tlv("32", ORGANIZATION), tlv("33", DUNS)
+FEE = "EE027200"                     # 114 bytes follow it where all four are in their places
+LAST = F34 + F35 + F3E + FFE         # what stands after 30 in the signed object without the older elements
+LAST_2 = F35 + FFE                   # and in the unsigned one, without 34
+assert tlv("53", FEE + F30 + F31 + F32 + F33 + LAST) == signed(older=ALL_FOUR) and len(signed(older=ALL_FOUR)) == 2 * 120
+assert tlv("53", F30 + F31 + F32 + F33 + LAST_2) == unsigned(older=("31", "32", "33"))
+
+
+def reads_1(data):
+    """A session of its own in mode 1, in which this object is read to its good end."""
+    return [ok(opening(1))] + select() + whole(data) + yes(1, 2)
+
+
+def reads_2(data):
+    return [ok(opening(2))] + select() + whole(data) + yes(3)
+
+
+def older_1(name, shows, quote, *objects):
+    script("older_%s_granted" % name, shows, quote, [line for data in objects for line in reads_1(data)], GRANTED_1)
+
+
+def older_2(name, shows, quote, *objects):
+    script("older_%s_granted" % name, shows, quote, [line for data in objects for line in reads_2(data)], GRANTED_2)
+
+
+def older_bad(name, shows, quote, *values):
+    """The fields in a 53, each in a session of its own in mode 1; a verdict is refused with 9, since step 1 has no good end."""
+    lines = [line for value in values
+             for line in [ok(opening(1))] + select() + whole(tlv("53", value)) + [refused(5, answer("", "9000")), refused(9, verdict(1, 1))]]
+    script("cause_20_older_" + name, shows, quote, lines, unread(1, REJECTED, 20, 1))
+
+
+def older_bad_2(name, shows, quote, *values):
+    """The same in mode 2."""
+    lines = [line for value in values
+             for line in [ok(opening(2))] + select() + whole(tlv("53", value)) + [refused(5, answer("", "9000")), refused(9, verdict(3, 1))]]
+    script("cause_20_older_" + name, shows, quote, lines, unread(2, REJECTED, 20, 1))
+
+
+def choices():
+    """Every choice of the four, sixteen of them."""
+    return [[tag for place, tag in enumerate(ALL_FOUR) if number >> place & 1] for number in range(16)]
+
+
+def places(fields, element):
+    """The element before each of the fields in turn, and after the last."""
+    return ["".join(fields[:place]) + element + "".join(fields[place:]) for place in range(len(fields) + 1)]
+
+
+def wrong_places(fields):
+    """Each of the four by itself in every place but its own, which is 0 for EE and 1 for the others; 30 is the first of the fields."""
+    return [value for element, own in ((FEE, 0), (F31, 1), (F32, 1), (F33, 1))
+            for place, value in enumerate(places(fields, element)) if place != own]
+
+
+# In their places: by themselves, some of them, all of them.
+older_1("ee", "EE alone: the buffer length", BEFORE_30, signed(older=["EE"]))
+older_1("31", "31 alone: the agency code", AFTER_30, signed(older=["31"]))
+older_1("32", "32 alone: the organization identifier", AFTER_30, signed(older=["32"]))
+older_1("33", "33 alone: the DUNS", AFTER_30, signed(older=["33"]))
+older_1("all_mode_1", "all four in mode 1, a signed object of 120 bytes", WELL_FORMED, signed(older=ALL_FOUR))
+script("older_all_mode_3_granted", "all four in mode 3; the fingers object has none of them", WELL_FORMED,
+       [ok(opening(3))] + select() + whole(signed(older=ALL_FOUR)) + whole(fingers()) + yes(1, 2, 4), GRANTED_3)
+script("older_all_mode_4_granted", "all four in mode 4", WELL_FORMED,
+       [ok(opening(4))] + select() + whole(signed(older=ALL_FOUR)) + whole(fingers()) + yes(1, 2, 3, 4), stamp(4, GRANTED, 0, 3, "222222"))
+older_1("31_33", "two of them: 31 and 33, and no 32 between them", ONCE, signed(older=["31", "33"]))
+older_1("31_32_33", "three of them: all but EE", AFTER_30, signed(older=["31", "32", "33"]))
+older_1("every_choice", "every choice of the four in the signed object, none of them first and all of them last, each in a session of its own",
+        WELL_FORMED, *[signed(older=choice) for choice in choices()])
+older_2("unsigned_ee", "the unsigned object with EE alone", SAME_FOUR, unsigned(older=["EE"]))
+older_2("unsigned_31", "the unsigned object with 31 alone", SAME_FOUR, unsigned(older=["31"]))
+older_2("unsigned_32", "the unsigned object with 32 alone", SAME_FOUR, unsigned(older=["32"]))
+older_2("unsigned_33", "the unsigned object with 33 alone: 35 comes straight after it", SAME_FOUR, unsigned(older=["33"]))
+older_2("unsigned_all", "the unsigned object with all four and no 34", SAME_FOUR, unsigned(older=ALL_FOUR))
+older_2("unsigned_all_guid", "the unsigned object with all four and with 34", SAME_FOUR, unsigned(older=ALL_FOUR, guid=GUID))
+older_2("unsigned_every_choice", "every choice of the four in the unsigned object, with 34 and without it, each in a session of its own",
+        SAME_FOUR, *[unsigned(older=choice, guid=guid) for guid in ("", GUID) for choice in choices()])
+
+# Cut, corrected, with longer lengths.
+older_small = signed(signature="A5", older=ALL_FOUR)
+assert len(older_small) == 2 * 89 and older_small[:12] == "5357EE025300"
+script("older_1_byte_pieces_granted", "all four, an object of 89 bytes, one byte an answer", CUT,
+       [ok(opening(1))] + select() + pieces(older_small, 1) + yes(1, 2), GRANTED_1)
+script("older_16_byte_pieces_granted", "the same object in pieces of 16 bytes", CUT,
+       [ok(opening(1))] + select() + pieces(older_small, 16) + yes(1, 2), GRANTED_1)
+assert [older_small[2 * at - 2:2 * at] for at in (3, 34, 40, 46, 57)] == ["EE", "31", "32", "33", "34"]
+borders = [3, 5, 6, 34, 37, 40, 43, 46, 53, 89]
+parts = [older_small[2 * start:2 * end] for start, end in zip([0] + borders, borders)]
+older_inside = [ok(answer(part, "61%02X" % (89 - end))) for part, end in zip(parts[:-1], borders)] + [ok(answer(parts[-1]))]
+script("older_cut_inside_granted", "the same object cut after the tag EE, inside EE and after it, and after the tag and inside of 31, 32 and 33", CUT,
+       [ok(opening(1))] + select() + older_inside + yes(1, 2), GRANTED_1)
+script("older_unsigned_empty_61_granted", "the unsigned object with all four: 61 without data, pieces of 7 bytes, 90 00 alone", CUT,
+       [ok(opening(2))] + select() + pieces(unsigned(older=ALL_FOUR), 7, True, True) + yes(3), GRANTED_2)
+script("corrected_older_all_granted", "6C 78 to GET DATA, then the signed object of 120 bytes with all four", SAME_COMMAND,
+       [ok(opening(1))] + select() + [ok(answer("", "6C78"))] + whole(signed(older=ALL_FOUR)) + yes(1, 2), GRANTED_1)
+script("open_older_unfinished", "all four read, and the rest of the object from 34 on not: no FASC-N and no expiry yet",
+       "both absent before step 1's good end",
+       [ok(opening(1))] + select() + [ok(answer(older_small[:112], "6121"))], unread(1, OPEN, 0, 1))
+assert older_small[112:116] == "3410" and len(older_small[112:]) == 2 * 0x21
+older_1("longer_lengths", "EE 81 02, 31 81 04, 32 81 04, 33 81 09, and the same with 82 00, each by itself in a session of its own", LONGER,
+        *[data for form in ("81", "82")
+          for data in (tlv("53", tlv("EE", "5B00", form) + F30 + LAST), tlv("53", F30 + tlv("31", AGENCY_CODE, form) + LAST),
+                       tlv("53", F30 + tlv("32", ORGANIZATION, form) + LAST), tlv("53", F30 + tlv("33", DUNS, form) + LAST))])
+older_1("all_81", "all four, every length as 81 and one byte", LONGER, signed(older=ALL_FOUR, form="81"))
+older_1("all_82", "all four, every length as 82 and two bytes", LONGER, signed(older=ALL_FOUR, form="82"))
+older_2("unsigned_all_82", "the unsigned object with all four and with 34, every length as 82 and two bytes", LONGER,
+        unsigned(older=ALL_FOUR, guid=GUID, form="82"))
+longest = signed(signature=some_bytes(2816), form="82", older=ALL_FOUR)
+assert len(longest) == 2 * 2924 and 2924 == 2889 + 6 + 8 + 8 + 13
+assert longest.startswith("53820B68" + "EE820002620B" + "30820019")
+script("older_longest_object_granted", "the longest signed object there is: 3E of 2,816 bytes, all four, every length with 82, 2,924 bytes in all, pieces of 256",
+       WELL_FORMED,
+       [ok(opening(1))] + select() + pieces(longest, 256) + yes(1, 2), GRANTED_1)
+
+# What stands in them is not looked at.
+older_1("ee_other_count", "EE that says 0 bytes, and in a second session 65,535: it is not compared with what follows", NOT_USED,
+        *[tlv("53", tlv("EE", value) + F30 + LAST) for value in ("0000", "FFFF")])
+older_1("ee_looks_like_30", "EE whose two bytes are 30 19, the head of the field that follows", NOT_OPENED,
+        tlv("53", tlv("EE", "3019") + F30 + LAST))
+older_1("33_looks_like_30", "33 whose nine bytes are 30 19 and the first seven of another FASC-N", NOT_OPENED,
+        tlv("53", F30 + tlv("33", "3019" + OTHER[:14]) + LAST))
+older_1("values_look_like_fields", "31 with the bytes of FE and FE, 32 with an EE, 33 with a 31 and the head of a 35", NOT_OPENED,
+        tlv("53", F30 + tlv("31", FFE + FFE) + tlv("32", FEE) + tlv("33", F31 + "350832") + LAST))
+older_1("values_00_and_ff", "all four filled with 00, and in a second session with FF: neither letters nor digits", NOT_USED,
+        *[tlv("53", tlv("EE", byte * 2) + F30 + tlv("31", byte * 4) + tlv("32", byte * 4) + tlv("33", byte * 9) + LAST) for byte in ("00", "FF")])
+older_1("agency_differs", "31 with 7099, where the FASC-N has the agency 1341: the two are not compared", NOT_USED,
+        tlv("53", F30 + tlv("31", "37303939") + LAST))
+
+# Out of place.
+older_bad("ee_after_30", "EE straight after 30", BEFORE_30, F30 + FEE + LAST)
+older_bad("ee_before_fe", "EE after 3E, the last before FE", BEFORE_30, F30 + F34 + F35 + F3E + FEE + FFE)
+older_bad("ee_after_fe", "EE after FE, and in a second session 31 after FE", BEFORE_30, F30 + LAST + FEE, F30 + LAST + F31)
+bad_object("older_ee_before_53", "EE before the 53, in front of a good object", "A data object is one TLV with tag 53", "EE025D00" + signed())
+older_bad("31_before_30", "31 before 30, and in a second session 32 between EE and 30", AFTER_30, F31 + F30 + LAST, FEE + F32 + F30 + LAST)
+older_bad("33_before_ee", "33 before EE, and in a second session 31 before EE", BEFORE_30, F33 + FEE + F30 + LAST, F31 + FEE + F30 + LAST)
+older_bad("31_after_32", "31 after 32", ONCE, F30 + F32 + F31 + LAST)
+older_bad("32_after_33", "32 after 33", ONCE, F30 + F31 + F33 + F32 + LAST)
+older_bad("33_before_31", "33 before 31", ONCE, F30 + F33 + F31 + LAST)
+older_bad("31_after_34", "31 after 34", AFTER_30, F30 + F34 + F31 + F35 + F3E + FFE)
+older_bad("33_after_34", "33 after 34, with 31 and 32 in their places", AFTER_30, F30 + F31 + F32 + F34 + F33 + F35 + F3E + FFE)
+older_bad("33_after_35", "33 after 35", AFTER_30, F30 + F34 + F35 + F33 + F3E + FFE)
+older_bad("32_after_3e", "32 after 3E", AFTER_30, F30 + F34 + F35 + F3E + F32 + FFE)
+older_bad("every_wrong_place", "each of the four by itself in every place of the signed object but its own, twenty sessions", NOT_USED,
+          *wrong_places([F30, F34, F35, F3E, FFE]))
+
+# Repeated.
+older_bad("ee_twice", "EE twice before 30, and in a second session before and after it", BEFORE_30, FEE + FEE + F30 + LAST, FEE + F30 + FEE + LAST)
+older_bad("31_twice", "31 twice, and in a second session 31, 32, 31", ONCE, F30 + F31 + F31 + LAST, F30 + F31 + F32 + F31 + LAST)
+older_bad("32_twice", "32 twice, with other bytes the second time", ONCE, F30 + F32 + tlv("32", AGENCY_CODE) + LAST)
+older_bad("33_twice", "33 twice, and in a second session before and after 34", ONCE,
+          F30 + F33 + F33 + LAST, F30 + F33 + F34 + F33 + F35 + F3E + FFE)
+older_bad("30_twice_31_between", "30, 31 and 30 again", IN_ORDER, F30 + F31 + F30 + LAST)
+
+# Other lengths, each in a session of its own.
+older_bad("ee_lengths", "EE of 1, 3 and 0 bytes", BEFORE_30, *[tlv("EE", value) + F30 + LAST for value in ("5B", "5B0000", "")])
+older_bad("31_lengths", "31 of 3, 5 and 0 bytes", AFTER_30, *[F30 + tlv("31", value) + LAST for value in (AGENCY_CODE[:-2], AGENCY_CODE + "20", "")])
+older_bad("32_lengths", "32 of 3, 5 and 0 bytes", AFTER_30, *[F30 + tlv("32", value) + LAST for value in (ORGANIZATION[:-2], ORGANIZATION + "20", "")])
+older_bad("33_lengths", "33 of 8, 10 and 0 bytes", AFTER_30, *[F30 + tlv("33", value) + LAST for value in (DUNS[:-2], DUNS + "38", "")])
+older_bad("lengths_exchanged", "31 with nine bytes, 32 with four, 33 with four", AFTER_30,
+          F30 + tlv("31", DUNS) + F32 + tlv("33", AGENCY_CODE) + LAST)
+older_bad("length_80_83", "31 80, and in a second session 33 83 00 00 09", "any other first byte is malformed",
+          F30 + "3180" + AGENCY_CODE + LAST, F30 + "3383000009" + DUNS + LAST)
+older_bad("cut_short_in_33", "the object ends after eight of the nine bytes of 33", "A TLV is tag, length, value",
+          FEE + F30 + F31 + F32 + F33[:-2])
+older_bad("two_byte_tags", "tags of two bytes, 1F 31 and 1F 33, in place of 31 and 33", IN_ORDER,
+          F30 + tlv("1F31", AGENCY_CODE) + LAST, F30 + tlv("1F33", DUNS) + LAST)
+
+# With other faults of the object.
+older_bad("3d", "all four, and document 003's 3D before 3E, which is no field here", IN_ORDER,
+          FEE + F30 + F31 + F32 + F33 + F34 + F35 + "3D0101" + F3E + FFE)
+older_bad("field_missing", "all four, while 30, 34, 35, 3E or FE is missing, each in a session of its own", IN_ORDER,
+          *["".join(field for field in (FEE, F30, F31, F32, F33, F34, F35, F3E, FFE) if field != missing) for missing in (F30, F34, F35, F3E, FFE)])
+older_bad_2("unsigned_wrong_place", "each of the four by itself in every place of the unsigned object but its own, with 34 and without it, 28 sessions", SAME_FOUR,
+            *wrong_places([F30, F34, F35, FFE]), *wrong_places([F30, F35, FFE]))
+older_bad_2("unsigned_order", "the unsigned object with 32 and 31, 33 and 31, 33 and 32, and 33 before EE", SAME_FOUR,
+            F30 + F32 + F31 + LAST_2, F30 + F33 + F31 + LAST_2, F30 + F33 + F32 + LAST_2, F33 + FEE + F30 + LAST_2)
+older_bad_2("unsigned_repeated", "the unsigned object with each of the four twice", SAME_FOUR,
+            FEE + FEE + F30 + LAST_2, *[F30 + field + field + LAST_2 for field in (F31, F32, F33)])
+older_bad_2("unsigned_lengths", "the unsigned object with each of the four one byte short, one byte long, and empty", SAME_FOUR,
+            *[tlv("EE", value) + F30 + LAST_2 for value in ("25", "250000", "")],
+            *[F30 + tlv(tag, value) + LAST_2 for tag, whole_value in (("31", AGENCY_CODE), ("32", ORGANIZATION), ("33", DUNS))
+              for value in (whole_value[:-2], whole_value + "20", "")])
+bad_object("older_unsigned_in_mode_1", "the unsigned object with all four in mode 1", "Step 1 reads 5FC102, or 5FC104 in mode 2",
+           unsigned(older=ALL_FOUR, guid=GUID))
+bad_object("older_signed_in_mode_2", "the signed object with all four in mode 2", "Step 1 reads 5FC102, or 5FC104 in mode 2",
+           signed(older=ALL_FOUR), mode=2)
+FINGERS_ROW = "DFC103, fingers: BC (1 to 862), FE (0, may be absent)"
+bad_fingers("older_fingers_ee", "EE before BC in the fingers object", FINGERS_ROW, tlv("53", "EE023400" + tlv("BC", some_bytes(48, 5)) + FFE))
+script("cause_20_older_fingers_every_place", "each of the four before BC, between BC and FE, and after FE, twelve sessions", FINGERS_ROW,
+       [line for element in (FEE, F31, F32, F33) for value in places([tlv("BC", some_bytes(48, 5)), FFE], element)
+        for line in [ok(opening(3))] + select() + whole(signed()) + whole(tlv("53", value)) + [refused(9, verdict(4, 1))]],
+       stamp(3, REJECTED, 20, 2, "112201"))
+
+# The card itself: all four in every object.
+bad_object("older_before_21", "31 twice, an ill-formed FASC-N and no date: the object is judged first",
+           "object malformed, 20; FASC-N ill-formed, 21; date ill-formed, 22",
+           tlv("53", FEE + tlv("30", WRONG_PARITY) + F31 + F31 + F34 + tlv("35", "41" * 8) + F3E + FFE))
+bad_card(21, "older_parity", "all four, and E3 as the last byte of the FASC-N", "FASC-N ill-formed, 21", signed(WRONG_PARITY, older=ALL_FOUR))
+bad_card(22, "older_20230229", "all four, and an expiry that is no real date, mode 2", "20230229 not",
+         unsigned(expiry="20230229", older=ALL_FOUR), mode=2)
+script("cause_3_older_expired", "all four, expired the day before, both verdicts yes", WELL_FORMED,
+       [ok(opening(1))] + select() + whole(signed(expiry="20240714", older=ALL_FOUR)) + yes(1, 2),
+       stamp(1, REJECTED, 3, 3, "223200", expiry="20240714"))
+script("cause_4_older_cancelled", "all four, cancelled, mode 2", WELL_FORMED,
+       [ok(SAMPLE_CARD), ok(opening(2))] + select() + whole(unsigned(older=ALL_FOUR)) + yes(3), stamp(2, REJECTED, 4, 3, "002320"))
+script("cause_2_older_other_card", "all four, mode 4; kind 2 of another card, the other kinds of this one", YES_EQUAL,
+       [ok(opening(4))] + select() + whole(signed(older=ALL_FOUR)) + whole(fingers()) + yes(1) + yes(2, card=OTHER) + yes(3, 4),
+       stamp(4, REJECTED, 2, 3, "242222"))
 
 # ---------------------------------------------------------------- refusals
 group("Refused lines")

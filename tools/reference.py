@@ -1,4 +1,4 @@
-"""The gate program of document 01, with request 1 of document 02, in plain Python.
+"""The gate program of document 01, with requests 1 and 5 of document 02, in plain Python.
 
 `run(data)` is what the program writes to standard output when its standard
 input is `data`.  The sections stand in the order of document 01.
@@ -156,10 +156,10 @@ def read_template(data):
 
 
 # Each row: tag, least length, greatest length, may be absent.
-SIGNED = [(0x30, 25, 25, False), (0x34, 16, 16, False), (0x35, 8, 8, False),
-          (0x3E, 1, 2816, False), (0xFE, 0, 0, False)]
-UNSIGNED = [(0x30, 25, 25, False), (0x34, 16, 16, True), (0x35, 8, 8, False),
-            (0xFE, 0, 0, False)]
+SIGNED = [(0xEE, 2, 2, True), (0x30, 25, 25, False), (0x31, 4, 4, True), (0x32, 4, 4, True), (0x33, 9, 9, True),
+          (0x34, 16, 16, False), (0x35, 8, 8, False), (0x3E, 1, 2816, False), (0xFE, 0, 0, False)]
+UNSIGNED = [(0xEE, 2, 2, True), (0x30, 25, 25, False), (0x31, 4, 4, True), (0x32, 4, 4, True), (0x33, 9, 9, True),
+            (0x34, 16, 16, True), (0x35, 8, 8, False), (0xFE, 0, 0, False)]
 FINGERS = [(0xBC, 1, 862, False), (0xFE, 0, 0, True)]
 
 

@@ -1,5 +1,5 @@
--- Data objects (document 01, section Objects): "A data object is one TLV with tag 53 and nothing after; its value holds one-byte-tag fields, each once, in
--- this order". Fields are not opened further.
+-- Data objects (document 01, section Objects, with request 5 of document 02): "A data object is one TLV with tag 53 and nothing after; its value holds one-byte-tag fields,
+-- each once, in this order". Fields are not opened further.
 -- Assumes nothing.
 use mathlib.Core.Path.{_≡_}
 use mathlib.Core.Bool.{Bool, true, false, cond, _&&_, _||_}
@@ -27,9 +27,25 @@ use Rattle.card.specs.declared.object.ObjectAnswer.the-variants as objec
 abbrev pub dataObjectTag : ℕ
 dataObjectTag = 0x53
 
+-- "EE with 2 bytes": the buffer length. This and 31, 32, 33 are elements of document 003, "checked for place and length and not used" (document 02, request 5).
+abbrev pub bufferLengthTag : ℕ
+bufferLengthTag = 0xEE
+
 -- "30 (25 bytes)": the FASC-N
 abbrev pub fascnTag : ℕ
 fascnTag = 0x30
+
+-- "31 (4 bytes)": the agency code
+abbrev pub agencyTag : ℕ
+agencyTag = 0x31
+
+-- "32 (4)": the organization identifier
+abbrev pub organizationTag : ℕ
+organizationTag = 0x32
+
+-- "33 (9)": the DUNS number of the issuer
+abbrev pub dunsTag : ℕ
+dunsTag = 0x33
 
 -- "34 (16)": the GUID
 abbrev pub guidTag : ℕ
@@ -73,17 +89,28 @@ required tag low high = record { 0 = tag; 1 = low; 2 = high; 3 = false }
 abbrev pub optional : ℕ → ℕ → ℕ → Row
 optional tag low high = record { 0 = tag; 1 = low; 2 = high; 3 = true }
 
+-- The rows with which the signed and the unsigned object begin: 30 (25 bytes), and about it "EE with 2 bytes may stand before 30. Straight after 30 may stand 31 (4 bytes),
+-- 32 (4) and 33 (9), in this order, each at most once. .. The unsigned object gains the same four." (document 02, request 5)
+abbrev pub firstRows : List Row
+firstRows =
+    optional bufferLengthTag 2 2
+    ∷ required fascnTag fascnBytes fascnBytes
+    ∷ optional agencyTag 4 4
+    ∷ optional organizationTag 4 4
+    ∷ optional dunsTag 9 9
+    ∷ []
+
 -- 5FC102, signed: 30 (25 bytes), 34 (16), 35 (8), 3E (1 to 2,816), FE (0).
 -- 5FC104, unsigned (layout fixed here): 30 (25), 34 (16, may be absent), 35 (8), FE (0).
 -- DFC103, fingers: BC (1 to 862), FE (0, may be absent).
 unfoldable pub rowsOf : Kind → List Row
-rowsOf Signed = required fascnTag fascnBytes fascnBytes ∷ required guidTag 16 16 ∷ required expiryTag dateDigits dateDigits ∷ required signatureTag 1 2816 ∷ required endTag 0 0 ∷ []
-rowsOf Unsigned = required fascnTag fascnBytes fascnBytes ∷ optional guidTag 16 16 ∷ required expiryTag dateDigits dateDigits ∷ required endTag 0 0 ∷ []
+rowsOf Signed = firstRows ++ (required guidTag 16 16 ∷ required expiryTag dateDigits dateDigits ∷ required signatureTag 1 2816 ∷ required endTag 0 0 ∷ [])
+rowsOf Unsigned = firstRows ++ (optional guidTag 16 16 ∷ required expiryTag dateDigits dateDigits ∷ required endTag 0 0 ∷ [])
 rowsOf Fingers = required fingersTag 1 862 ∷ optional endTag 0 0 ∷ []
 
 -- The most fields that an object has. A layout has as many rows, and an answer as many parts.
 abbrev pub mostFields : ℕ
-mostFields = 5
+mostFields = 9
 
 -- The tag by which GET DATA asks for the object.
 unfoldable pub objectTag : Kind → List ℕ

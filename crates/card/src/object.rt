@@ -1,4 +1,4 @@
-// Data objects (document 01, section Objects): one TLV 53, whose value holds one-byte-tag fields, each once, in the order of the object's rows.
+// Data objects (document 01, section Objects, with request 5 of document 02): one TLV 53, whose value holds one-byte-tag fields, each once, in the order of the object's rows.
 use crate::date::DATE_DIGITS;
 use crate::fascn::counts::FASCN_BYTES;
 use crate::tlv;
@@ -17,11 +17,19 @@ pub enum Kind {
     Fingers,
 }
 
-// The tag of a data object, and those of its fields: the FASC-N, the GUID, the expiry date, the issuer's signature and the finger templates. In the definitions
-// they are `dataObjectTag`, `fascnTag` and so on.
+// The tag of a data object, and those of its fields: the buffer length, the FASC-N, the agency code, the organization identifier, the issuer's DUNS number, the GUID, the
+// expiry date, the issuer's signature and the finger templates. In the definitions they are `dataObjectTag`, `bufferLengthTag` and so on.
 pub const DATA_OBJECT_TAG: usize = 0x53;
 
+pub const BUFFER_LENGTH_TAG: u8 = 0xEE;
+
 pub const FASCN_TAG: u8 = 0x30;
+
+pub const AGENCY_TAG: u8 = 0x31;
+
+pub const ORGANIZATION_TAG: u8 = 0x32;
+
+pub const DUNS_TAG: u8 = 0x33;
 
 pub const GUID_TAG: u8 = 0x34;
 
@@ -37,8 +45,19 @@ pub const END_TAG: u8 = 0xFE;
 // A row of an object's layout: the field's tag, the least and the greatest length of its value, and whether it may be absent.
 pub(crate) struct Row(pub u8, pub usize, pub usize, pub bool);
 
+// The rows with which the signed and the unsigned object begin; `firstRows` in the definitions.
+const BUFFER_LENGTH: Row = Row(BUFFER_LENGTH_TAG, 2, 2, true);
+
+const FASCN: Row = Row(FASCN_TAG, FASCN_BYTES, FASCN_BYTES, false);
+
+const AGENCY: Row = Row(AGENCY_TAG, 4, 4, true);
+
+const ORGANIZATION: Row = Row(ORGANIZATION_TAG, 4, 4, true);
+
+const DUNS: Row = Row(DUNS_TAG, 9, 9, true);
+
 // The most fields that an object has; `mostFields` in the definitions.
-pub const FIELDS: usize = 5;
+pub const FIELDS: usize = 9;
 
 // No row of an object: it fills a layout up; `noRow` in the definitions.
 const NONE: Row = Row(0, 0, 0, false);
@@ -98,9 +117,13 @@ fn layout_of(kind: Kind) -> Layout
 {
     match kind {
         Kind::Signed => Layout {
-            n: 5,
+            n: 9,
             rows: [
-                Row(FASCN_TAG, FASCN_BYTES, FASCN_BYTES, false),
+                BUFFER_LENGTH,
+                FASCN,
+                AGENCY,
+                ORGANIZATION,
+                DUNS,
                 Row(GUID_TAG, 16, 16, false),
                 Row(EXPIRY_TAG, DATE_DIGITS, DATE_DIGITS, false),
                 Row(SIGNATURE_TAG, 1, 2816, false),
@@ -108,9 +131,13 @@ fn layout_of(kind: Kind) -> Layout
             ],
         },
         Kind::Unsigned => Layout {
-            n: 4,
+            n: 8,
             rows: [
-                Row(FASCN_TAG, FASCN_BYTES, FASCN_BYTES, false),
+                BUFFER_LENGTH,
+                FASCN,
+                AGENCY,
+                ORGANIZATION,
+                DUNS,
                 Row(GUID_TAG, 16, 16, true),
                 Row(EXPIRY_TAG, DATE_DIGITS, DATE_DIGITS, false),
                 Row(END_TAG, 0, 0, false),
@@ -122,6 +149,10 @@ fn layout_of(kind: Kind) -> Layout
             rows: [
                 Row(FINGERS_TAG, 1, 862, false),
                 Row(END_TAG, 0, 0, true),
+                NONE,
+                NONE,
+                NONE,
+                NONE,
                 NONE,
                 NONE,
                 NONE,

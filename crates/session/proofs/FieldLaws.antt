@@ -1,7 +1,7 @@
 -- The field call: the part that the session keeps of a field holds the field's value in its step's joined data.
 -- Assumes nothing.
 use mathlib.Core.Path.{_≡_, refl, sym, ap, _∙_}
-use mathlib.Core.Bool.{Bool, true, false, cond, not, _||_}
+use mathlib.Core.Bool.{Bool, true, false, cond, not, _||_, or-false}
 use mathlib.Core.Option.{Option}
 use mathlib.Core.List.{List, [], _++_}
 use Prim.Native.Nat.{ℕ}
@@ -9,8 +9,8 @@ use native.Mathlib.Omega.{arith}
 use lib.Dec.{eqb}
 use lib.ListN.{length, drop, take-append-drop, length-drop}
 use lib.Seq.{take-nil, drop-nil, length-take-le}
-use borrow.Author.Tests.{eq-eqb, lt-ltb}
-use Rattle.card.specs.Object.{rowsOf, partIn, bytesAt, fieldPart, fieldValue}
+use borrow.Author.Tests.{eq-eqb, lt-ltb, eqb-true}
+use Rattle.card.specs.Object.{fingersTag, empty, rowsOf, partIn, bytesAt, fieldPart, fieldValue}
 use Rattle.card.specs.declared.object.Kind.{Kind}
 use Rattle.card.specs.declared.object.Part.{Part}
 use Rattle.card.proofs.ObjectLaws.{part-inside, field-after}
@@ -18,7 +18,7 @@ use Rattle.common.specs.Lists.{isIn}
 use Rattle.session.specs.Tables.{hasStep2, kindAt, baseOf, objectSize, step1Tags, step2Tags, stepOfTag, stepRead}
 use Rattle.session.specs.Reading.{StepOne, Found, Reading, joinedOne, joinedTwo, joinedAt, fieldIn, fieldFor}
 use Rattle.session.specs.Operation.{noParts, partFor, fieldOf}
-use Rattle.session.proofs.Invariant.{parts-one, parts-two, session-of, Held, OneHeld, TwoHeld, Stage, Invariant}
+use Rattle.session.proofs.Invariant.{parts-one, part-two, session-of, Held, OneHeld, TwoHeld, Stage, Invariant}
 use Rattle.common.proofs.TestLaws.{clash}
 use Rattle.session.proofs.InRangeLaws.{none-parts, in-range}
 
@@ -93,20 +93,23 @@ step2-read mode step f xs (Stage.late l x n) e h = rw (lt-ltb 2 step (omega arit
 abbrev tested : ℕ → ℕ → List ℕ → ℕ → Bool
 tested mode step object k = not (eqb (length object) objectSize) || (eqb k 0 || not (stepRead mode step k))
 
-module _ (mode step tag : ℕ) (m : List ℕ) where
-  one-value : (f : Found) (one : Option StepOne) → Stage step f → f .step1 ≡ one → OneHeld mode one m
+module _ (mode step : ℕ) (m : List ℕ) where
+  one-value : (tag : ℕ) (f : Found) (one : Option StepOne) → Stage step f → f .step1 ≡ one → OneHeld mode one m
       → cond (tested mode step m 1) [] (bytesAt (drop (baseOf 1) m) (partIn (rowsOf (kindAt mode 1)) (parts-one mode one) tag)) ≡ fieldValue (kindAt mode 1) tag (joinedOne one)
-  one-value f Option.none s e k = unread (kindAt mode 1) tag (drop (baseOf 1) m) (tested mode step m 1)
-  one-value f (Option.some x) s e k = rw (eq-eqb _ _ (k .1 .whole), step1-read mode step f x s e) (value-kept (kindAt mode 1) tag 1 (x .joined) m (k .1))
+  one-value tag f Option.none s e k = unread (kindAt mode 1) tag (drop (baseOf 1) m) (tested mode step m 1)
+  one-value tag f (Option.some x) s e k = rw (eq-eqb _ _ (k .1 .whole), step1-read mode step f x s e) (value-kept (kindAt mode 1) tag 1 (x .joined) m (k .1))
 
   two-value : (f : Found) (two : Option (List ℕ)) → Stage step f → f .step2 ≡ two → TwoHeld mode two m
-      → cond (tested mode step m 2) [] (bytesAt (drop (baseOf 2) m) (partIn (rowsOf (kindAt mode 2)) (parts-two mode two) tag)) ≡ fieldValue (kindAt mode 2) tag (joinedTwo two)
-  two-value f Option.none s e k = unread (kindAt mode 2) tag (drop (baseOf 2) m) (tested mode step m 2)
-  two-value f (Option.some xs) s e k = rw (eq-eqb _ _ (k .1 .whole), step2-read mode step f xs s e (k .0)) (value-kept (kindAt mode 2) tag 2 xs m (k .1))
+      → cond (tested mode step m 2) [] (bytesAt (drop (baseOf 2) m) (part-two mode two)) ≡ fieldValue (kindAt mode 2) fingersTag (joinedTwo two)
+  two-value f Option.none s e k = rw (value-none (kindAt mode 2) fingersTag) (either (tested mode step m 2) _ (no-bytes empty (drop (baseOf 2) m) refl))
+  two-value f (Option.some xs) s e k = rw (eq-eqb _ _ (k .1 .whole), step2-read mode step f xs s e (k .0)) (value-kept (kindAt mode 2) fingersTag 2 xs m (k .1))
 
--- the step of a tag by two tests
+-- the step of a tag by two tests; of step 2's object BC alone can be asked for
 abbrev step : Bool → Bool → ℕ
 step x y = cond x 1 (cond y 2 0)
+
+only-BC : (tag : ℕ) → isIn tag step2Tags ≡ true → tag ≡ fingersTag
+only-BC tag e = eqb-true tag fingersTag (rw or-false at e)
 
 no-tag : (b : Bool) (xs : List ℕ) → cond (b || true) [] xs ≡ []
 no-tag true xs = refl
@@ -114,34 +117,34 @@ no-tag false xs = refl
 
 pub field-is : (r : Reading) (m : List ℕ) (tag : ℕ) → Invariant r m → fieldOf (session-of r) m tag ≡ fieldIn r tag
 unfolding fieldOf fieldIn stepOfTag
-field-is r m tag i = rw (in-range r m i) (by-step (isIn tag step1Tags) (isIn tag step2Tags))
+field-is r m tag i = rw (in-range r m i) (by-step (isIn tag step1Tags) (isIn tag step2Tags) refl)
   where
-    by-step : (x y : Bool)
+    by-step : (x y : Bool) → isIn tag step2Tags ≡ y
         → cond (tested (r .opening .mode) (r .progress .step) m (step x y)) [] (bytesAt (drop (baseOf (step x y)) m) (partFor (session-of r) (step x y) tag))
         ≡ cond (eqb (step x y) 0) [] (fieldValue (kindAt (r .opening .mode) (step x y)) tag (joinedAt (r .found) (step x y)))
-    by-step true y = one-value (r .opening .mode) (r .progress .step) tag m (r .found) (r .found .step1) (i .stage) refl (i .one)
-    by-step false true = two-value (r .opening .mode) (r .progress .step) tag m (r .found) (r .found .step2) (i .stage) refl (i .two)
-    by-step false false = no-tag (not (eqb (length m) objectSize)) _
+    by-step true y e = one-value (r .opening .mode) (r .progress .step) m tag (r .found) (r .found .step1) (i .stage) refl (i .one)
+    by-step false true e = rw (only-BC tag e) (two-value (r .opening .mode) (r .progress .step) m (r .found) (r .found .step2) (i .stage) refl (i .two))
+    by-step false false e = no-tag (not (eqb (length m) objectSize)) _
 
 -- a part of a field that the reading has not is empty
 one-empty : (mode tag : ℕ) (one : Option StepOne) → fieldValue (kindAt mode 1) tag (joinedOne one) ≡ [] → partIn (rowsOf (kindAt mode 1)) (parts-one mode one) tag .len ≡ 0
 one-empty mode tag Option.none e = part-none (kindAt mode 1) tag
 one-empty mode tag (Option.some x) e = part-empty (kindAt mode 1) tag (x .joined) e
 
-two-empty : (mode tag : ℕ) (two : Option (List ℕ)) → fieldValue (kindAt mode 2) tag (joinedTwo two) ≡ [] → partIn (rowsOf (kindAt mode 2)) (parts-two mode two) tag .len ≡ 0
-two-empty mode tag Option.none e = part-none (kindAt mode 2) tag
-two-empty mode tag (Option.some xs) e = part-empty (kindAt mode 2) tag xs e
+two-empty : (mode : ℕ) (two : Option (List ℕ)) → fieldValue (kindAt mode 2) fingersTag (joinedTwo two) ≡ [] → part-two mode two .len ≡ 0
+two-empty mode Option.none e = refl
+two-empty mode (Option.some xs) e = part-empty (kindAt mode 2) fingersTag xs e
 
 -- such a field is the empty part of any buffer
 none-read : (r : Reading) (m object : List ℕ) (tag : ℕ) → Invariant r m → fieldIn r tag ≡ [] → fieldOf (session-of r) object tag ≡ []
 unfolding fieldOf fieldIn stepOfTag
-none-read r m object tag i = rw (in-range r m i) (by-step (isIn tag step1Tags) (isIn tag step2Tags))
+none-read r m object tag i = rw (in-range r m i) (by-step (isIn tag step1Tags) (isIn tag step2Tags) refl)
   where
-    by-step : (x y : Bool) → cond (eqb (step x y) 0) [] (fieldValue (kindAt (r .opening .mode) (step x y)) tag (joinedAt (r .found) (step x y))) ≡ []
+    by-step : (x y : Bool) → isIn tag step2Tags ≡ y → cond (eqb (step x y) 0) [] (fieldValue (kindAt (r .opening .mode) (step x y)) tag (joinedAt (r .found) (step x y))) ≡ []
         → cond (tested (r .opening .mode) (r .progress .step) object (step x y)) [] (bytesAt (drop (baseOf (step x y)) object) (partFor (session-of r) (step x y) tag)) ≡ []
-    by-step true y e = either (tested (r .opening .mode) (r .progress .step) object 1) _ (no-bytes _ (drop (baseOf 1) object) (one-empty (r .opening .mode) tag (r .found .step1) e))
-    by-step false true e = either (tested (r .opening .mode) (r .progress .step) object 2) _ (no-bytes _ (drop (baseOf 2) object) (two-empty (r .opening .mode) tag (r .found .step2) e))
-    by-step false false e = no-tag (not (eqb (length object) objectSize)) _
+    by-step true y t e = either (tested (r .opening .mode) (r .progress .step) object 1) _ (no-bytes _ (drop (baseOf 1) object) (one-empty (r .opening .mode) tag (r .found .step1) e))
+    by-step false true t e = either (tested (r .opening .mode) (r .progress .step) object 2) _ (no-bytes _ (drop (baseOf 2) object) (two-empty (r .opening .mode) (r .found .step2) (rw (only-BC tag t) at e)))
+    by-step false false t e = no-tag (not (eqb (length object) objectSize)) _
 
 -- and so is every field of a buffer of another size
 other-size : (r : Reading) (m object : List ℕ) (tag : ℕ) → Invariant r m → eqb (length object) objectSize ≡ false → fieldOf (session-of r) object tag ≡ []

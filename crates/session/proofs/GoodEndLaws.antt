@@ -10,7 +10,7 @@ use borrow.Author.Tests.{eqb-true, eqb-false, not-false}
 use lib.Dec.{eqb}
 use lib.ListN.{length, getD, set, take, drop, length-set}
 use lib.Seq.{getD-set-same, getD-set-other}
-use Rattle.card.specs.Object.{malformedObject, expiryTag, objectOf, fieldValue}
+use Rattle.card.specs.Object.{malformedObject, expiryTag, fingersTag, objectOf, fieldPart, fieldValue}
 use Rattle.card.specs.Fascn.{unpackOf}
 use Rattle.card.specs.Date.{illFormedDate, dateOf}
 use Rattle.session.specs.Tables.{checks, fascnCause, checkServed, outcomeOf, expiryOutcome, listOutcome, judgedOutcomes, hasStep2, kindAt, stepAfter, baseOf, capacity, objectSize, fascnRead, keyRead, expiryRead, objectCause, joinedCause}
@@ -161,7 +161,7 @@ good-end r m m′ xs cancelled i l lt small b held good =
     last n a p q = omega arith
 
     at-step-2 : (n : ℕ) → n ≡ 2
-        → _≡_ {A = Host} (record { session = step2EndSession (session-of r) (objectOf (kindAt (r .opening .mode) n) xs .1); object = m′ }) (record { session = step2EndSession (session-of r) (objectOf (kindAt (r .opening .mode) 2) xs .1); object = m′ })
+        → _≡_ {A = Host} (record { session = step2EndSession (session-of r) (fieldPart (kindAt (r .opening .mode) n) fingersTag xs); object = m′ }) (record { session = step2EndSession (session-of r) (fieldPart (kindAt (r .opening .mode) 2) fingersTag xs); object = m′ })
     at-step-2 n e = rw e
 
     held-at : (step k : ℕ) → step ≡ k → length xs ≤ capacity (r .opening .mode) step → take (length xs) (drop (baseOf step) m′) ≡ xs → Held (r .opening .mode) k xs m′

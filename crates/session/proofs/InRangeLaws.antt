@@ -10,7 +10,7 @@ use borrow.Author.Tests.{le-leb, not-true, not-false}
 use lib.Dec.{eqb}
 use lib.ListN.{length, getD}
 use Rattle.card.specs.Tlv.{onlyFrom, onlyOf}
-use Rattle.card.specs.Object.{expiryTag, empty, mostFields, fieldValue, objectOf, objectFrom}
+use Rattle.card.specs.Object.{expiryTag, fingersTag, empty, mostFields, fieldValue, objectOf, objectFrom}
 use Rattle.card.specs.Date.{realDate}
 use Rattle.card.specs.Command.{aidRefused}
 use Rattle.card.specs.declared.object.Part.{Part}
@@ -18,7 +18,7 @@ use Rattle.card.specs.declared.object.Kind.{Kind}
 use Rattle.card.specs.declared.object.Kind.the-variants.{Signed}
 use Rattle.common.proofs.ListsLaws.{all-of}
 use Rattle.card.proofs.TlvLaws.{header-empty}
-use Rattle.card.proofs.ObjectLaws.{AllInside, parts-inside}
+use Rattle.card.proofs.ObjectLaws.{AllInside, parts-inside, part-inside}
 use Rattle.card.proofs.DateLaws.{date-real}
 use Rattle.session.specs.Tables.{modeInRange, kindAt, baseOf, capacity, objectSize, expiryRead}
 use Rattle.session.specs.Reading.{Opening, StepOne, Reading}
@@ -27,7 +27,7 @@ use Rattle.session.specs.Operation.{noParts}
 use Rattle.session.specs.Promise.{goodOpening}
 use Rattle.common.proofs.TestLaws.{and-left, and-right, and-both}
 use Rattle.session.proofs.FigureLaws.{base-fits}
-use Rattle.session.proofs.Invariant.{expiry-of, parts-one, parts-two, session-of, OneHeld, TwoHeld, Invariant}
+use Rattle.session.proofs.Invariant.{expiry-of, parts-one, part-two, session-of, OneHeld, TwoHeld, Invariant}
 
 -- ---- parts
 
@@ -65,7 +65,7 @@ opening-in-range o e =
     and-both (and-left a (not (aidRefused (o .aid))) e) (not-false _ (not-true _ (and-right a (not (aidRefused (o .aid))) e)))
 
 card-in-range : (mode : ℕ) (one : Option StepOne) (two : Option (List ℕ)) (m : List ℕ) → OneHeld mode one m → TwoHeld mode two m
-    → cardInRange (expiry-of mode one) (partsInside (baseOf 1) (parts-one mode one) && partsInside (baseOf 2) (parts-two mode two)) ≡ true
+    → cardInRange (expiry-of mode one) (partsInside (baseOf 1) (parts-one mode one) && partInside (baseOf 2) (part-two mode two)) ≡ true
 card-in-range mode one two m a b = and-both (expiry one a) (and-both (step1 one a) (step2 two b))
   where
     expiry : (one : Option StepOne) → OneHeld mode one m → eqb (expiry-of mode one) 0 || realDate (expiry-of mode one) ≡ true
@@ -76,9 +76,9 @@ card-in-range mode one two m a b = and-both (expiry one a) (and-both (step1 one 
     step1 Option.none a = no-parts-in-range mode 1
     step1 (Option.some f) a = parts-in-range (baseOf 1) (kindAt mode 1) (f .joined) (step-fits mode 1 (length (f .joined)) (a .1 .small))
 
-    step2 : (two : Option (List ℕ)) → TwoHeld mode two m → partsInside (baseOf 2) (parts-two mode two) ≡ true
-    step2 Option.none b = no-parts-in-range mode 2
-    step2 (Option.some xs) b = parts-in-range (baseOf 2) (kindAt mode 2) xs (step-fits mode 2 (length xs) (b .1 .small))
+    step2 : (two : Option (List ℕ)) → TwoHeld mode two m → partInside (baseOf 2) (part-two mode two) ≡ true
+    step2 Option.none b = inside-one (baseOf 2) 0 empty (step-fits mode 2 0 (omega arith)) (omega arith)
+    step2 (Option.some xs) b = inside-one (baseOf 2) (length xs) _ (step-fits mode 2 (length xs) (b .1 .small)) (part-inside (kindAt mode 2) xs fingersTag)
 
 pub in-range : (r : Reading) (m : List ℕ) → Invariant r m → inRange (session-of r) ≡ true
 unfolding inRange valuesInRange rangedValues

@@ -10,7 +10,7 @@ use Rattle.card.specs.Command.{aidMost, withLast}
 use Rattle.card.proofs.CommandLaws.{with-last-twice, get-response-last}
 use Rattle.common.specs.Lists.{overFront}
 use Rattle.card.specs.Fascn.{unpackOf}
-use Rattle.card.specs.Object.{expiryTag, objectOf, fieldValue}
+use Rattle.card.specs.Object.{expiryTag, fingersTag, empty, objectOf, fieldPart, fieldValue}
 use Rattle.card.specs.Date.{dateOf}
 use Rattle.card.specs.declared.object.Part.{Part}
 use Rattle.card.specs.declared.command.Status.{Status}
@@ -94,12 +94,12 @@ abbrev pub parts-one : ℕ → Option StepOne → List Part
 parts-one mode Option.none = noParts
 parts-one mode (Option.some f) = objectOf (kindAt mode 1) (f .joined) .1
 
-abbrev pub parts-two : ℕ → Option (List ℕ) → List Part
-parts-two mode Option.none = noParts
-parts-two mode (Option.some joined) = objectOf (kindAt mode 2) joined .1
+abbrev pub part-two : ℕ → Option (List ℕ) → Part
+part-two mode Option.none = empty
+part-two mode (Option.some joined) = fieldPart (kindAt mode 2) fingersTag joined
 
 abbrev pub card-of : ℕ → Option StepOne → Option (List ℕ) → Card
-card-of mode one two = record { fascn = ownFascn mode one; expiry = expiry-of mode one; step1 = parts-one mode one; step2 = parts-two mode two }
+card-of mode one two = record { fascn = ownFascn mode one; expiry = expiry-of mode one; step1 = parts-one mode one; step2 = part-two mode two }
 
 abbrev pub session-of : Reading → Session
 session-of r =

@@ -52,12 +52,12 @@ filled-in-range s e =
     let full : step && leb (p .filled) most ≡ true = and-parts (step && leb (p .filled) most) (causeInRange (p .cause) && outstandingInRange (p .outstanding) (p .step) (p .cause)) (groups-in-range s e .0 .1) .0 in
     leb-true (p .filled) most (and-parts step (leb (p .filled) most) full .1)
 
--- the parts of step 1 and those of step 2
-pub parts-in-range : (s : Session) → inRange s ≡ true → (partsInside (baseOf 1) (s .card .step1) ≡ true) × (partsInside (baseOf 2) (s .card .step2) ≡ true)
+-- the parts of step 1 and that of step 2
+pub parts-in-range : (s : Session) → inRange s ≡ true → (partsInside (baseOf 1) (s .card .step1) ≡ true) × (partInside (baseOf 2) (s .card .step2) ≡ true)
 unfolding rangedValues
 parts-in-range s e =
     let c = s .card in
-    and-parts (partsInside (baseOf 1) (c .step1)) (partsInside (baseOf 2) (c .step2)) (and-parts (eqb (c .expiry) 0 || realDate (c .expiry)) _ (groups-in-range s e .1 .1) .1)
+    and-parts (partsInside (baseOf 1) (c .step1)) (partInside (baseOf 2) (c .step2)) (and-parts (eqb (c .expiry) 0 || realDate (c .expiry)) _ (groups-in-range s e .1 .1) .1)
 
 -- ---- parts
 
@@ -77,7 +77,7 @@ picked-ends base (r ∷ rs) (p ∷ ps) tag h t = by-tag (eqb (r .0) tag) (picked
     by-tag true later = part-ends base p (t 0 (omega arith))
     by-tag false later = later
 
--- an object has five rows at most
+-- an object has as many rows as it has fields at most
 rows-most : (k : Kind) → length (rowsOf k) ≤ mostFields
 unfolding rowsOf
 rows-most Signed = omega arith
@@ -93,11 +93,11 @@ parts-end base k ps tag h e =
 -- the field with a tag of a step's object lies inside the object buffer
 pub part-in-range : (s : Session) (step tag : ℕ) → inRange s ≡ true
     → baseOf step + (partFor s step tag .start + partFor s step tag .len) ≤ objectSize
-part-in-range s step tag e = rw (base-by step) (by-step (eqb step 2) (kindAt (s .opening .mode) step))
+part-in-range s step tag e = rw (base-by step) (by-step (eqb step 2))
   where
-    by-step : (b : Bool) (k : Kind) → let p = partIn (rowsOf k) (cond b (s .card .step2) (s .card .step1)) tag in cond b (baseOf 2) (baseOf 1) + (p .start + p .len) ≤ objectSize
-    by-step true k = parts-end (baseOf 2) k (s .card .step2) tag (base-inside 2) (parts-in-range s e .1)
-    by-step false k = parts-end (baseOf 1) k (s .card .step1) tag (base-inside 1) (parts-in-range s e .0)
+    by-step : (b : Bool) → let p = cond b (s .card .step2) (partIn (rowsOf (kindAt (s .opening .mode) 1)) (s .card .step1) tag) in cond b (baseOf 2) (baseOf 1) + (p .start + p .len) ≤ objectSize
+    by-step true = part-ends (baseOf 2) (s .card .step2) (parts-in-range s e .1)
+    by-step false = parts-end (baseOf 1) (kindAt (s .opening .mode) 1) (s .card .step1) tag (base-inside 1) (parts-in-range s e .0)
 
 -- ---- the values by themselves
 

@@ -7,7 +7,7 @@ use lib.Dec.{eqb}
 use lib.ListN.{length, getD, take, drop, replicate}
 use Rattle.common.specs.Lists.{overFront, overPlaces}
 use Rattle.common.specs.Refusal.{refusalOf}
-use Rattle.card.specs.Object.{empty, mostFields, rowsOf, objectOf, partIn, bytesAt}
+use Rattle.card.specs.Object.{fingersTag, empty, mostFields, rowsOf, objectOf, partIn, bytesAt, fieldPart}
 use Rattle.card.specs.Fascn.{fascnBytes}
 use Rattle.card.specs.Command.{aidMost, statusOf}
 use Rattle.card.specs.declared.object.Part.{Part}
@@ -65,7 +65,7 @@ abbrev pub noParts : List Part
 noParts = replicate mostFields empty
 
 abbrev pub noCard : Card
-noCard = record { fascn = replicate fascnBytes 0; expiry = 0; step1 = noParts; step2 = noParts }
+noCard = record { fascn = replicate fascnBytes 0; expiry = 0; step1 = noParts; step2 = empty }
 
 -- "a dead session, all zeros"
 abbrev pub dead : Session
@@ -156,14 +156,14 @@ step1EndSession s joined cancelled =
       card = record { fascn = fascnRead mode joined; expiry = expiryRead mode joined; step1 = objectOf (kindAt mode 1) joined .1; step2 = s .card .step2 };
     }
 
--- Step 2's good end: the places of the fields are kept.
-abbrev pub step2EndSession : Session → List Part → Session
-step2EndSession s parts =
+-- Step 2's good end: the place of the field BC is kept.
+abbrev pub step2EndSession : Session → Part → Session
+step2EndSession s part =
     record {
       opening = s .opening;
       progress = progressAtStep 3;
       outcomes = s .outcomes;
-      card = record { fascn = s .card .fascn; expiry = s .card .expiry; step1 = s .card .step1; step2 = parts };
+      card = record { fascn = s .card .fascn; expiry = s .card .expiry; step1 = s .card .step1; step2 = part };
     }
 
 -- The good end of a step, by its joined data.
@@ -171,7 +171,7 @@ unfoldable pub goodEndSession : Session → List ℕ → List ℕ → Session
 goodEndSession s joined cancelled =
     let mode = s .opening .mode in
     cond (eqb (s .progress .step) 0) (withSessionProgress s (progressAtStep (stepAfter mode 0)))
-    (cond (eqb (s .progress .step) 1) (step1EndSession s joined cancelled) (step2EndSession s (objectOf (kindAt mode (s .progress .step)) joined .1)))
+    (cond (eqb (s .progress .step) 1) (step1EndSession s joined cancelled) (step2EndSession s (fieldPart (kindAt mode (s .progress .step)) fingersTag joined)))
 
 -- The step's joined data is judged.
 unfoldable pub judgedSession : Session → List ℕ → List ℕ → Session
@@ -242,13 +242,9 @@ verdictOf s kind yesNo fascn =
 
 -- ---- field
 
--- The parts of a step's object.
-abbrev pub partsAt : Card → ℕ → List Part
-partsAt c step = cond (eqb step 2) (c .step2) (c .step1)
-
--- The part of the field with a tag of the step's object, in the step's data.
+-- The part of the field with a tag of the step's object, in the step's data: of step 2's object the field BC is the only one that can be asked for.
 abbrev pub partFor : Session → ℕ → ℕ → Part
-partFor s step tag = partIn (rowsOf (kindAt (s .opening .mode) step)) (partsAt (s .card) step) tag
+partFor s step tag = cond (eqb step 2) (s .card .step2) (partIn (rowsOf (kindAt (s .opening .mode) 1)) (s .card .step1) tag)
 
 -- The value as a part of the object buffer, or the empty part.
 unfoldable pub fieldOf : Session → List ℕ → ℕ → List ℕ

@@ -63,7 +63,7 @@ rangedValues s =
       step = s .progress .step;
       cause = s .progress .cause;
       outstanding = s .progress .outstanding;
-      inside = partsInside (baseOf 1) (s .card .step1) && partsInside (baseOf 2) (s .card .step2);
+      inside = partsInside (baseOf 1) (s .card .step1) && partInside (baseOf 2) (s .card .step2);
       outcomes = s .outcomes;
     }
 

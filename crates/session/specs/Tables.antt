@@ -10,7 +10,7 @@ use Rattle.common.specs.Lists.{listOf, all, isIn, sameBytes}
 use Rattle.common.specs.Refusal.{refusalOf}
 use Rattle.card.specs.Fascn.{fascnBytes, unpackOf, keyOf}
 use Rattle.card.specs.Template.{templateOf}
-use Rattle.card.specs.Object.{fascnTag, guidTag, expiryTag, signatureTag, fingersTag, malformedObject, objectOf, fieldValue}
+use Rattle.card.specs.Object.{bufferLengthTag, fascnTag, agencyTag, organizationTag, dunsTag, guidTag, expiryTag, signatureTag, fingersTag, malformedObject, objectOf, fieldValue}
 use Rattle.card.specs.Date.{illFormedDate, dateOf}
 use Rattle.card.specs.Command.{selectBytes, getDataBytes, getResponseBytes, withLast}
 use Rattle.card.specs.declared.object.Kind.{Kind}
@@ -179,9 +179,10 @@ answersMost mode step = 2 * (capacity mode step + 2)
 abbrev pub stepRead : ℕ → ℕ → ℕ → Bool
 stepRead mode step k = ltb k step && (not (eqb k 2) || hasStep2 mode)
 
--- The tags that a field call may ask for: 30, 34, 35, 3E of step 1's object, BC of step 2's.
+-- The tags that a field call may ask for: of step 1's object 30, 34, 35, 3E and, since request 5 of document 02, "The field call also gives their parts", EE, 31, 32, 33;
+-- of step 2's BC.
 abbrev pub step1Tags : List ℕ
-step1Tags = fascnTag ∷ guidTag ∷ expiryTag ∷ signatureTag ∷ []
+step1Tags = bufferLengthTag ∷ fascnTag ∷ agencyTag ∷ organizationTag ∷ dunsTag ∷ guidTag ∷ expiryTag ∷ signatureTag ∷ []
 
 abbrev pub step2Tags : List ℕ
 step2Tags = fingersTag ∷ []

@@ -3,30 +3,25 @@ use crate::figures::OBJECT;
 use crate::state::Session;
 use crate::tables;
 use card::object;
-use card::object::FIELDS;
 use card::object::Part;
 ghost use mathlib.Core.Path.{_≡_};
-ghost use Rattle.session.specs.Operation.{partsAt, partFor, fieldOf};
+ghost use Rattle.session.specs.Operation.{partFor, fieldOf};
 ghost use Rattle.session.specs.Promise.{FieldPromise};
 
 impl Session {
-    // The parts of a step's object.
-    fn parts_at(self, step: u8) -> [Part; FIELDS]
-        ensures { λ r. ⌜ r ≡ partsAt (self .card) step ⌝ }
-    {
-        let card = self.card;
-        if step == 2 { card.step2 } else { card.step1 }
-    }
-
     // Where the field with a tag lies in its step's data.
     fn part_for(self, step: u8, tag: u8) -> Part
         ensures { λ r. ⌜ r ≡ partFor self step tag ⌝ }
     {
-        let parts = self.parts_at(step);
-        object::part_of(tables::kind_at(self.opening.mode, step), parts, tag)
+        let card = self.card;
+        if step == 2 {
+            return card.step2;
+        }
+        let parts = card.step1;
+        object::part_of(tables::kind_at(self.opening.mode, 1), parts, tag)
     }
 
-    // The value of the field with tag 30, 34, 35, 3E or BC; the empty part where the session is dead or out of range, the buffer has another size, the tag is another, or
+    // The value of the field with tag EE, 30 to 35, 3E or BC; the empty part where the session is dead or out of range, the buffer has another size, the tag is another, or
     // the field is not yet read or absent.
     pub fn field<'a>(self, object: &'a [u8], tag: u8) -> &'a [u8]
         ensures { λ r. ⌜ now r ≡ fieldOf self (now (object .entry)) tag ⌝ }

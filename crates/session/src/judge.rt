@@ -17,6 +17,7 @@ use card::object;
 use card::object::EXPIRY_TAG;
 use card::object::FASCN_TAG;
 use card::object::FIELDS;
+use card::object::FINGERS_TAG;
 use card::object::Kind;
 use card::object::MALFORMED_OBJECT;
 use card::object::Part;
@@ -137,13 +138,13 @@ impl Session {
         }
     }
 
-    // Step 2's object is good.
-    fn judge_step2(self, parts: [Part; FIELDS]) -> Session
-        ensures { λ r. ⌜ r ≡ step2EndSession self parts ⌝ }
+    // Step 2's object is good, and its field BC lies there.
+    fn judge_step2(self, part: Part) -> Session
+        ensures { λ r. ⌜ r ≡ step2EndSession self part ⌝ }
     {
         let progress = progress::at_step(3);
         let mut card = self.card;
-        card.step2 = parts;
+        card.step2 = part;
         let mut s = self;
         s.progress = progress;
         s.card = card;
@@ -168,6 +169,6 @@ impl Session {
         if step == 1 {
             return self.judge_step1(parts, joined, cancelled);
         }
-        self.judge_step2(parts)
+        self.judge_step2(object::part_of(kind, parts, FINGERS_TAG))
     }
 }

@@ -28,7 +28,7 @@ fn no_card() -> Card
         fascn: [0; FASCN_BYTES],
         expiry: 0,
         step1: [EMPTY; FIELDS],
-        step2: [EMPTY; FIELDS],
+        step2: EMPTY,
     }
 }
 

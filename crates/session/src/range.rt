@@ -98,7 +98,7 @@ impl Session {
         let step1 = card.step1;
         let step2 = card.step2;
         let inside = parts_inside(tables::base_of(1), step1)
-            & parts_inside(tables::base_of(2), step2);
+            & part_inside(tables::base_of(2), step2);
         Values {
             date: opening.date,
             expiry: card.expiry,

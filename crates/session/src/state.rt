@@ -36,12 +36,13 @@ pub struct SessionProgress {
     pub sw2: u8,
 }
 
-// What steps 1 and 2 gave: FASC-N and expiry (0 before step 1's good end), and where the fields of each step's object lie in the step's data.
+// What steps 1 and 2 gave: FASC-N and expiry (0 before step 1's good end), and where fields lie in their step's data: those of step 1's object, in the order of its rows,
+// and of step 2's the one that can be asked for, BC.
 pub struct Card {
     pub fascn: [u8; FASCN_BYTES],
     pub expiry: u32,
     pub step1: [Part; FIELDS],
-    pub step2: [Part; FIELDS],
+    pub step2: Part,
 }
 
 // A session. Outcomes stand in the order of the checks: 0 unneeded, 1 awaited, 2 passed, 3 failed, 4 other card.

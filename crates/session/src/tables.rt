@@ -14,11 +14,15 @@ use crate::figures::STATUS_CAUSE;
 use crate::figures::STEP_2_BASE;
 use crate::figures::UNNEEDED;
 use card::date::ILL_FORMED_DATE;
+use card::object::AGENCY_TAG;
+use card::object::BUFFER_LENGTH_TAG;
+use card::object::DUNS_TAG;
 use card::object::EXPIRY_TAG;
 use card::object::FASCN_TAG;
 use card::object::FINGERS_TAG;
 use card::object::GUID_TAG;
 use card::object::Kind;
+use card::object::ORGANIZATION_TAG;
 use card::object::SIGNATURE_TAG;
 ghost use mathlib.Core.Path.{_≡_};
 ghost use Prim.Native.Nat.{_≤_, _<_};
@@ -219,7 +223,9 @@ pub(crate) fn step_read(mode: u8, step: u8, k: u8) -> bool
 pub(crate) fn step_of_tag(tag: u8) -> u8
     ensures { λ r. ⌜ r ≡ stepOfTag tag ⌝ }
 {
-    if (tag == FASCN_TAG) | (tag == GUID_TAG) | (tag == EXPIRY_TAG) | (tag == SIGNATURE_TAG) {
+    let first = (tag == BUFFER_LENGTH_TAG) | (tag == FASCN_TAG);
+    let older = (tag == AGENCY_TAG) | (tag == ORGANIZATION_TAG) | (tag == DUNS_TAG);
+    if first | older | (tag == GUID_TAG) | (tag == EXPIRY_TAG) | (tag == SIGNATURE_TAG) {
         return 1;
     }
     if tag == FINGERS_TAG { 2 } else { 0 }

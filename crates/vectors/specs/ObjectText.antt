@@ -8,7 +8,7 @@ use lib.ListN.{length, getD}
 use Rattle.common.specs.Lists.{all, number}
 use Rattle.card.specs.Tlv.{tagBytes, headerOf}
 use Rattle.card.specs.Template.{templateOf}
-use Rattle.card.specs.Object.{fascnTag, guidTag, expiryTag, signatureTag, fingersTag, rowsOf, objectOf, partIn}
+use Rattle.card.specs.Object.{bufferLengthTag, fascnTag, agencyTag, organizationTag, dunsTag, guidTag, expiryTag, signatureTag, fingersTag, rowsOf, objectOf, partIn}
 use Rattle.card.specs.Date.{realDate, dateOf}
 use Rattle.card.specs.declared.tlv.Header.{Header}
 use Rattle.card.specs.declared.tlv.Header.the-variants.{Whole, Malformed}
@@ -77,8 +77,8 @@ shownText k parts tags = textsOf (length tags) (λ i. fieldText k parts i (getD 
 
 -- The tags of the fields that are shown of an object: a row for each kind.
 unfoldable pub shownTags : Kind → List ℕ
-shownTags Signed = fascnTag ∷ guidTag ∷ expiryTag ∷ signatureTag ∷ []
-shownTags Unsigned = fascnTag ∷ guidTag ∷ expiryTag ∷ []
+shownTags Signed = bufferLengthTag ∷ fascnTag ∷ agencyTag ∷ organizationTag ∷ dunsTag ∷ guidTag ∷ expiryTag ∷ signatureTag ∷ []
+shownTags Unsigned = bufferLengthTag ∷ fascnTag ∷ agencyTag ∷ organizationTag ∷ dunsTag ∷ guidTag ∷ expiryTag ∷ []
 shownTags Fingers = fingersTag ∷ []
 
 -- The fields, or the cause by which the object is refused.

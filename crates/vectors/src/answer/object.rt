@@ -155,8 +155,20 @@ fn add_shown(out: &mut [u8], at: usize, kind: Kind, parts: [Part; object::FIELDS
     ensures { λ r. ⌜ Added (now (out .entry)) at (now (out .exit)) r (shownText kind parts (shownTags kind)) ⌝ }
 {
     match kind {
-        Kind::Signed => add_fields(out, at, Kind::Signed, parts, b"\x30\x34\x35\x3E"),
-        Kind::Unsigned => add_fields(out, at, Kind::Unsigned, parts, b"\x30\x34\x35"),
+        Kind::Signed => add_fields(
+            out,
+            at,
+            Kind::Signed,
+            parts,
+            b"\xEE\x30\x31\x32\x33\x34\x35\x3E",
+        ),
+        Kind::Unsigned => add_fields(
+            out,
+            at,
+            Kind::Unsigned,
+            parts,
+            b"\xEE\x30\x31\x32\x33\x34\x35",
+        ),
         Kind::Fingers => add_fields(out, at, Kind::Fingers, parts, b"\xBC"),
     }
 }

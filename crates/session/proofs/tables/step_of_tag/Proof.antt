@@ -4,14 +4,15 @@ use mathlib.Core.Bool.{_||_, or-false, or-assoc}
 use Prim.Native.Nat.{ℕ}
 use borrow.Author.Tests.{eq-eqb, ne-eqb}
 use lib.Dec.{eqb}
-use Rattle.card.specs.Object.{fascnTag, guidTag, expiryTag, signatureTag}
+use Rattle.card.specs.Object.{bufferLengthTag, fascnTag, agencyTag, organizationTag, dunsTag, guidTag, expiryTag, signatureTag}
 use Rattle.common.specs.Lists.{isIn}
 use Rattle.session.specs.Tables.{step1Tags, stepOfTag}
 use Rattle.session.proofs.tables.step_of_tag.Statement.{statement}
 use Rattle.session.proofs.tables.step_of_tag.Tie as tie
 
 -- the tags of step 1, as code and definition group their tests
-step1-tags : (x : ℕ) → (((eqb x fascnTag || eqb x guidTag) || eqb x expiryTag) || eqb x signatureTag) ≡ isIn x step1Tags
+step1-tags : (x : ℕ)
+    → (((((eqb x bufferLengthTag || eqb x fascnTag) || ((eqb x agencyTag || eqb x organizationTag) || eqb x dunsTag)) || eqb x guidTag) || eqb x expiryTag) || eqb x signatureTag) ≡ isIn x step1Tags
 step1-tags x = simp (or-assoc, or-false)
 
 returns : tie.Need-returns

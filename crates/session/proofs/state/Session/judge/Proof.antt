@@ -28,11 +28,11 @@ judge-step1-requires c κs =
 returns-4 : tie.Need-returns-4
 unfolding judgedSession joinedCause objectCause goodEndSession
 returns-4 c =
-    rw (ne-eqb _ _ (c .before .before .before .before .before .before .before .if1 .left), ← object-is (c .before .before .before .before .before), ← c .before .before .before .before .number .ensures, c .before .before .before .if2 .left, ne-eqb _ _ (c .before .if3 .left)) (c .judge-step2 .ensures)
+    rw (ne-eqb _ _ (c .before .before .before .before .before .before .before .before .if1 .left), ← object-is (c .before .before .before .before .before .before), ← c .before .before .before .before .before .number .ensures, c .before .before .before .before .if2 .left, ne-eqb _ _ (c .before .before .if3 .left), ← c .before .before .before .before .before .before .before .kind-at .ensures, ← c .before .part-of .ensures) (c .judge-step2 .ensures)
 
 pub judge-spec : {M : Type 1} → statement M
 judge-spec =
     tie.close
     (tie.spec
     (λ c κs. search needs) (λ c. search needs) (λ c κs. search needs) (λ c κs. search needs) (λ c κs. search needs) (λ c κs. search needs) returns-2
-    judge-step1-requires (λ c. search needs) (λ c κs. search needs) returns-4)
+    judge-step1-requires (λ c. search needs) (λ c κs. search needs) (λ c κs. search needs) returns-4)
