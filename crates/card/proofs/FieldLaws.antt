@@ -9,8 +9,9 @@ use native.Mathlib.Omega.{arith}
 use borrow.Author.Tests.{eq-eqb, ne-eqb, eqb-true, eqb-false}
 use lib.Dec.{eqb}
 use lib.ListN.{length, getD, set, take, drop, replicate, length-set, take-append-drop}
-use lib.Seq.{take-suc-set, drop-set-lt, drop-cons, getD-take, drop-drop, drop-length, length-take-le, append-snoc}
+use lib.Seq.{take-suc-set, drop-set-lt, drop-cons, getD-take, getD-drop, drop-drop, drop-length, length-take-le, append-snoc}
 use Rattle.card.specs.Tlv.{headerOf}
+use Rattle.card.proofs.TlvLaws.{first-byte}
 use Rattle.card.specs.Object.{mostFields, rowsOf, empty, absent, found, fieldFrom, rowField, fieldsFrom, fieldsAnswer, partIn}
 use Rattle.card.specs.ObjectCode.{layoutOf}
 use Rattle.card.specs.declared.tlv.Header.{Header}
@@ -54,6 +55,14 @@ field-cases v base r at P none some = by-header (headerOf (drop at v)) refl
         by-tag : (k : Bool) → eqb tag (r .0) ≡ k → P (rowField v base r at)
         by-tag true p = subst P (field-found v base r at e (eqb-true tag (r .0) p)) (some tag start len nested e (eqb-true tag (r .0) p))
         by-tag false p = subst P (field-other v base r at e (eqb-false tag (r .0) p)) none
+
+-- another byte than the row's tag stands at the place: it is absent
+pub field-unlike : (v : List ℕ) (base : ℕ) (r : Row) (at : ℕ) → r .0 < 256 → (getD v at 0 ≡ r .0 → ⊥) → absent r at ≡ rowField v base r at
+field-unlike v base r at small h =
+    let here : at + 0 ≡ at = omega arith in
+    let front : getD (drop at v) 0 0 ≡ getD v at 0 = getD-drop at v 0 0 ∙ ap (λ (i : ℕ). getD v i 0) here in
+    field-cases v base r at (λ (f : Field). absent r at ≡ f) refl
+    (λ tag start len nested e k. absurd (h (sym front ∙ sym (first-byte (drop at v) e (omega (arith, k, small))) ∙ k)))
 
 -- ---- the walk over the rows
 

@@ -116,6 +116,14 @@ tag-cases a b c P u v w h = go (eqb (a % 32) 31) (ltb b 128) (ltb c 128) refl re
     go true false true p q r = simp (p, q, r) (w p q r)
     go true false false p q r = absurd (omega (arith, simp (p, q, r) at h))
 
+-- a tag below 256 is its first byte
+pub first-byte : (s : List ℕ) {tag start len : ℕ} {nested : Bool} → Whole tag nested start len ≡ headerOf s → tag < 256 → tag ≡ getD s 0 0
+first-byte s {tag} e small =
+    let p = parts s e .1 in
+    let a = getD s 0 0 in
+    tag-cases a (getD s 1 0) (getD s 2 0) (λ (size n : ℕ). n ≡ tag → tag ≡ a) (λ h q. sym q)
+    (λ h b q. absurd (omega (arith, eqb-true (a % 32) 31 h, q))) (λ h b c q. absurd (omega (arith, eqb-true (a % 32) 31 h, q))) (p .tagged) (p .number)
+
 -- a law on the size of a length and the length, size by size
 pub length-cases : (a b c : ℕ) (P : ℕ → ℕ → Type 0) → (ltb a 0x80 ≡ true → P 1 a) → (a ≡ 0x81 → P 2 b) → (a ≡ 0x82 → P 3 (b * 256 + c))
     → 0 < lengthSize a → P (lengthSize a) (lengthOf a b c)

@@ -172,6 +172,10 @@ fn next_field(v: &[u8], base: usize, row: Row, at: usize) -> Field
         part: EMPTY,
         next: at,
     };
+    // all tags of rows are one byte: where another stands, there is no need to read the TLV
+    if slice::byte(v, at) != row.0 {
+        return absent;
+    }
     match tlv::header_of(slice::after(v, at)) {
         Header::Whole {
             tag,
