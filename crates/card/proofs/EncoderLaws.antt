@@ -49,6 +49,17 @@ tag-read t r h =
     let g = tag-agree s (s ++ r) (omega arith) (λ i l. List·getD-append s r 0 i (omega arith)) in
     (g .0 ∙ e, g .1 ∙ n ∙ rw e (b .1), b .0)
 
+-- a form that has room for a length is one of the three
+pub form-small : (form n : ℕ) → fitsForm form n ≡ true → form ≤ 3
+unfolding fitsForm
+form-small zero n h = omega arith
+form-small (suc zero) n h = omega arith
+form-small (suc (suc zero)) n h = omega arith
+form-small (suc (suc (suc zero))) n h = omega arith
+form-small (suc (suc (suc (suc k)))) n h =
+    let m = suc (suc (suc (suc k))) in
+    absurd (false≢true (simp (ne-eqb m 1 (omega arith), ne-eqb m 2 (omega arith), ne-eqb m 3 (omega arith)) at h))
+
 -- the bytes of a length are read as the length, whatever stands after them
 pub form-read : (form n : ℕ) (r : List ℕ) → fitsForm form n ≡ true
     → (lengthSize (getD (lengthBytes form n ++ r) 0 0) ≡ form) × (ofThree lengthOf (lengthBytes form n ++ r) ≡ n)
@@ -58,9 +69,7 @@ form-read zero n r h = absurd (false≢true h)
 form-read (suc zero) n r h = (simp h, simp h, refl, omega arith)
 form-read (suc (suc zero)) n r h = (refl, refl, refl, omega arith)
 form-read (suc (suc (suc zero))) n r h = (refl, div-add-mod' n 256, refl, omega arith)
-form-read (suc (suc (suc (suc k)))) n r h =
-    let m = suc (suc (suc (suc k))) in
-    absurd (false≢true (simp (ne-eqb m 1 (omega arith), ne-eqb m 2 (omega arith), ne-eqb m 3 (omega arith)) at h))
+form-read (suc (suc (suc (suc k)))) n r h = absurd (omega (arith, form-small (suc (suc (suc (suc k)))) n h))
 
 -- f of the three bytes from a place on
 front-drop : (f : ℕ → ℕ → ℕ → ℕ) (t : ℕ) (s : List ℕ) {r : List ℕ} → drop t s ≡ r

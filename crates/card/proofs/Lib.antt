@@ -1,4 +1,4 @@
--- The laws of this crate's definitions, from the general to the particular. A crate above cites FascnLaws, TlvLaws, TemplateLaws, ObjectLaws, DateLaws and CommandLaws.
+-- The laws of this crate's definitions, from the general to the particular. A crate above cites FascnLaws, TlvLaws, TemplateLaws, ObjectLaws, OlderLaws, DateLaws and CommandLaws.
 -- RuleLaws: one character, and the rule that it follows
 pub mod RuleLaws
 -- CharacterLaws: bytes, characters and values
@@ -21,6 +21,8 @@ pub mod FieldLaws
 pub mod ObjectLaws
 -- MadeLaws: an object is accepted exactly where the encoder makes it
 pub mod MadeLaws
+-- OlderLaws: objects with the older elements
+pub mod OlderLaws
 -- DateLaws: dates, and the order of days
 pub mod DateLaws
 -- CommandLaws: commands, and the buffer that they are written to

@@ -42,7 +42,7 @@ rows-apart Fingers = refl
 -- ---- the fields of any rows
 
 -- the length of what is written
-encoded-length : (form tag : ℕ) (value : List ℕ) → fitsForm form (length value) ≡ true → length (encoded form tag value) ≡ length (tagBytes tag) + form + length value
+pub encoded-length : (form tag : ℕ) (value : List ℕ) → fitsForm form (length value) ≡ true → length (encoded form tag value) ≡ length (tagBytes tag) + form + length value
 unfolding encoded
 encoded-length form tag value h = rw (length-append, length-append, form-read form (length value) [] h .2) (omega arith)
 

@@ -2,15 +2,16 @@
 -- Assumes nothing.
 use mathlib.Core.Path.{_≡_, refl, sym, ap, subst, _∙_}
 use mathlib.Core.Bool.{Bool, true, false, cond, _&&_, _||_, and-eq-true-iff, or-true}
+use mathlib.Core.Logic.{_⊎_, inl, inr}
 use mathlib.Core.List.{List, [], _∷_, _++_}
 use Prim.Native.Nat.{ℕ, zero, suc, _+_, _-_, _≤_, _<_}
 use native.Mathlib.Omega.{arith}
-use borrow.Author.Tests.{leb-true}
+use borrow.Author.Tests.{leb-true, eqb-true}
 use lib.Dec.{eqb, leb}
 use lib.ListN.{length, take, drop, replicate, length-drop}
 use lib.Seq.{take-append-le, drop-append-le}
 use Rattle.card.specs.Tlv.{headerOf, onlyOf}
-use Rattle.card.specs.Object.{dataObjectTag, fascnTag, guidTag, expiryTag, signatureTag, fingersTag, mostFields, required, empty, rowsOf, rowField, fieldsFrom, fieldsAnswer, objectFrom, objectOf, partIn, bytesAt, fieldPart, fieldValue, allowed, rowIn}
+use Rattle.card.specs.Object.{dataObjectTag, fascnTag, guidTag, expiryTag, signatureTag, fingersTag, mostFields, required, optional, empty, rowsOf, rowField, fieldsFrom, fieldsAnswer, objectFrom, objectOf, partIn, bytesAt, fieldPart, fieldValue, allowed, rowIn}
 use Rattle.card.specs.declared.tlv.Header.{Header}
 use Rattle.card.specs.declared.tlv.Header.the-variants.{Whole, Malformed}
 use Rattle.card.specs.declared.object.Kind.{Kind}
@@ -197,6 +198,20 @@ length-between k s tag low high r p =
 -- so where its row fixes the length, it has that length
 pub length-is : (k : Kind) (s : List ℕ) (tag n : ℕ) → rowIn (rowsOf k) tag ≡ required tag n n → objectOf k s .0 ≡ 0 → fieldPart k tag s .len ≡ n
 length-is k s tag n r p = let b = length-between k s tag n n r p in omega (arith, b .0, b .1)
+
+-- and the field with a tag that may be absent then has that length, or is empty
+pub length-or-none : (k : Kind) (s : List ℕ) (tag n : ℕ) → rowIn (rowsOf k) tag ≡ optional tag n n → objectOf k s .0 ≡ 0
+    → (fieldPart k tag s .len ≡ n) ⊎ (fieldPart k tag s .len ≡ 0)
+length-or-none k s tag n r p =
+    let len = fieldPart k tag s .len in
+    let fits : allowed (optional tag n n) len ≡ true = rw r at (part-allowed k s tag p) in
+    either len (eqb len 0) refl fits
+  where
+    either : (len : ℕ) (none : Bool) → eqb len 0 ≡ none → allowed (optional tag n n) len ≡ true → (len ≡ n) ⊎ (len ≡ 0)
+    either len true e fits = inr (eqb-true len 0 e)
+    either len false e fits =
+        let q = and-eq-true-iff (leb n len) (leb len n) .0 (or-left (leb n len && leb len n) (rw e at fits)) in
+        inl (let low = leb-true n len (q .0) in let high = leb-true len n (q .1) in omega arith)
 
 -- the lengths of the fields that have to be there, object by object
 pub signed-lengths : (s : List ℕ) → objectOf Signed s .0 ≡ 0

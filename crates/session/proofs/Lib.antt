@@ -57,5 +57,9 @@ pub mod PromiseLaws
 pub mod CallPromiseLaws
 -- SameFindingLaws: what cannot change a finding
 pub mod SameFindingLaws
+-- EndedLaws: a reading that a cause has ended
+pub mod EndedLaws
+-- ElementsLaws: the fields of step 1's object that a finding does not use
+pub mod ElementsLaws
 -- Twelve: document 01's worked examples, and commands after a 6C
 pub mod Twelve

@@ -1,14 +1,25 @@
--- The tests that a mode needs a check, and the lowest failed check, from the last check back to the first.
+-- The tests that a mode needs a check; the lowest failed check, from the last check back to the first; and the tags that a field call may ask for.
 -- Assumes nothing.
-use mathlib.Core.Path.{_≡_, _∙_}
+use mathlib.Core.Path.{_≡_, refl, _∙_}
 use mathlib.Core.Bool.{Bool, true, false, cond, _||_, or-false, or-assoc}
-use mathlib.Core.List.{List}
+use mathlib.Core.List.{List, [], _∷_, _++_, map}
 use Prim.Native.Nat.{ℕ, _+_, _<_}
 use native.Mathlib.Numerals.{add-one}
 use lib.Dec.{eqb}
 use lib.ListN.{length, getD, drop}
 use lib.Seq.{drop-cons}
-use Rattle.session.specs.Tables.{failed, otherCard, lowestFrom}
+use Rattle.card.specs.Object.{rowTag, endTag, rowsOf}
+use Rattle.card.specs.declared.object.Kind.the-variants.{Signed, Fingers}
+use Rattle.session.specs.Tables.{failed, otherCard, lowestFrom, step1Tags, step2Tags}
+
+-- a field call may ask for every field of a signed object and of a fingers object but the last, FE; those of an unsigned object are among these
+pub signed-asked : map rowTag (rowsOf Signed) ≡ step1Tags ++ (endTag ∷ [])
+unfolding rowsOf
+signed-asked = refl
+
+pub fingers-asked : map rowTag (rowsOf Fingers) ≡ step2Tags ++ (endTag ∷ [])
+unfolding rowsOf
+fingers-asked = refl
 
 -- six tests, one of which passes, as code and definition group them
 pub six : (a b c d e f : Bool) → (((((a || b) || c) || d) || e) || f) ≡ (a || (b || (c || (d || (e || (f || false))))))

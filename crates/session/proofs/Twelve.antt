@@ -1,4 +1,5 @@
--- Document 01's proofreader's twelve, the stamp of its printed example, and commands after a 6C (document 02, request 1): one table, and one theorem over it.
+-- Document 01's proofreader's twelve, the stamp of its printed example, commands after a 6C (document 02, request 1), and its object with the older elements (request 5):
+-- one table, and one theorem over it.
 -- Assumes nothing.
 use mathlib.Core.Path.{_≡_, refl}
 use mathlib.Core.Bool.{cond}
@@ -67,16 +68,36 @@ example date =
     (answered-by ((0x53 ∷ 0x27 ∷ []) ++ fields ++ (0x90 ∷ 0x00 ∷ []))
     (Arguments.verdict 3 1 (sample ++ (0xe2 ∷ [])) ∷ [])))
 
+-- The object of the example with the older elements: EE before 30, and 31, 32 and 33 straight after it.
+buffer-length : List ℕ
+buffer-length = 0x3E ∷ 0x00 ∷ []
+
+agency : List ℕ
+agency = 0x37 ∷ 0x30 ∷ 0x41 ∷ 0x42 ∷ []
+
+organization : List ℕ
+organization = 0x31 ∷ 0x32 ∷ 0x43 ∷ 0x44 ∷ []
+
+duns : List ℕ
+duns = 0x31 ∷ 0x32 ∷ 0x33 ∷ 0x34 ∷ 0x35 ∷ 0x36 ∷ 0x37 ∷ 0x38 ∷ 0x39 ∷ []
+
+older : List ℕ
+unfolding sample buffer-length agency organization duns
+older =
+    (0x53 ∷ 0x42 ∷ 0xEE ∷ 0x02 ∷ []) ++ buffer-length ++ (0x30 ∷ 0x19 ∷ []) ++ sample ++ (0xe2 ∷ 0x31 ∷ 0x04 ∷ []) ++ agency ++ (0x32 ∷ 0x04 ∷ []) ++ organization ++ (0x33 ∷ 0x09 ∷ []) ++ duns
+    ++ (0x35 ∷ 0x08 ∷ 0x32 ∷ 0x30 ∷ 0x31 ∷ 0x31 ∷ 0x30 ∷ 0x34 ∷ 0x31 ∷ 0x30 ∷ 0xfe ∷ 0x00 ∷ [])
+
 -- The command after so many calls.
 next-after : List Arguments → List ℕ
 unfolding opening
 next-after calls = nextCommand (reading (begins (opening 20110410)) calls)
 
--- What the definitions give, beside what document 01 says and, in the last four rows, what request 1 of document 02 makes of a command: a, its check value, b, c; d, e, f, g; h, with 53 27 and with 53 81 27, where all starts are one more; i; j and k,
--- the outcome of check 3 where the example is opened on its expiry, 20110410, and a day later; l; the example's stamp; and the command after 6C 0D to SELECT, after
--- 61 0D to that, after 6C 08 to the GET RESPONSE, and after 6C 29 to GET DATA.
+-- What the definitions give, beside what documents 01 and 02 say. Document 01: a, its check value, b, c; d, e, f, g; h, with 53 27 and with 53 81 27, where all starts are one more; i; j and k,
+-- the outcome of check 3 where the example is opened on its expiry, 20110410, and a day later; l; the example's stamp. Request 1 of document 02: the command after 6C 0D to SELECT, after
+-- 61 0D to that, after 6C 08 to the GET RESPONSE, and after 6C 29 to GET DATA. Request 5: the places of 30, 34 and 35 in the object
+-- with the older elements; its fields EE, 31, 32 and 33; and the step whose object a field call looks for them in.
 pub table : List (List ℕ × List ℕ)
-unfolding sample digits fields opening template answered-by next-after
+unfolding sample digits fields opening template answered-by next-after buffer-length agency organization duns
 table =
     (answer (sample ++ (0xe2 ∷ [])), 0 ∷ digits)
     ∷ (checkValue (valuesIn (sample ++ (0xe2 ∷ []))) ∷ [], 8 ∷ [])
@@ -97,8 +118,14 @@ table =
     ∷ (next-after (answered-by (0x6C ∷ 0x0D ∷ []) (answered-by (0x61 ∷ 0x0D ∷ []) [])), 0x00 ∷ 0xC0 ∷ 0x00 ∷ 0x00 ∷ 0x0D ∷ [])
     ∷ (next-after (answered-by (0x6C ∷ 0x0D ∷ []) (answered-by (0x61 ∷ 0x0D ∷ []) (answered-by (0x6C ∷ 0x08 ∷ []) []))), 0x00 ∷ 0xC0 ∷ 0x00 ∷ 0x00 ∷ 0x08 ∷ [])
     ∷ (next-after (answered-by template (answered-by (0x6C ∷ 0x29 ∷ []) [])), 0x00 ∷ 0xCB ∷ 0x3F ∷ 0xFF ∷ 0x05 ∷ 0x5C ∷ 0x03 ∷ 0x5F ∷ 0xC1 ∷ 0x04 ∷ 0x29 ∷ [])
+    ∷ (object older, 0 ∷ 8 ∷ 25 ∷ 0 ∷ 0 ∷ 58 ∷ 8 ∷ [])
+    ∷ (fieldValue Unsigned 0xEE older, buffer-length)
+    ∷ (fieldValue Unsigned 0x31 older, agency)
+    ∷ (fieldValue Unsigned 0x32 older, organization)
+    ∷ (fieldValue Unsigned 0x33 older, duns)
+    ∷ (map tables.stepOfTag (0xEE ∷ 0x31 ∷ 0x32 ∷ 0x33 ∷ []), replicate 4 1)
     ∷ []
 
 pub twelve : map (λ row. row .0) table ≡ map (λ row. row .1) table
-unfolding example next-after opening template answered-by tables.objectSize tables.capacity tables.needs tables.checkServed tables.neededAt tables.neededOutcomes tables.verdictOutcome tables.expiryOutcome tables.listOutcome tables.lowestFrom tables.causeOf tables.allPassed tables.standingOf tables.commandBytes tables.ruleCause tables.objectCause tables.joinedCause tables.stampLayout commandRefused answerRefused goodEnd judged answerTaken verdictRefused read finding stampOf number sameBytes isDigitAt spelled goodDate dateOf tlvsFrom tlvsOf every wholeTo lengthsOf justOne goodValue goodFrom templateOf getResponseBytes selectBytes getDataBytes withLast statusOf bytesAt fieldValue objectTag charBit sentBit bytesOf valuesFrom valuesOf packRefusal packOf keyOf table answer real object place partIn realDate daysIn objectOf objectFrom fieldsAnswer fieldsFrom rowField fieldFrom rowsOf onlyOf onlyFrom headerOf afterTag endingOf tagSize tagNumber lengthSize lengthOf unpackOf unpackRefusal bitAt valueAt oddAt valuesIn digitsFrom marksFrom decimalAt checkValue all listOf sliceOf xorOf
+unfolding example older next-after opening template answered-by tables.stepOfTag tables.objectSize tables.capacity tables.needs tables.checkServed tables.neededAt tables.neededOutcomes tables.verdictOutcome tables.expiryOutcome tables.listOutcome tables.lowestFrom tables.causeOf tables.allPassed tables.standingOf tables.commandBytes tables.ruleCause tables.objectCause tables.joinedCause tables.stampLayout commandRefused answerRefused goodEnd judged answerTaken verdictRefused read finding stampOf number sameBytes isDigitAt spelled goodDate dateOf tlvsFrom tlvsOf every wholeTo lengthsOf justOne goodValue goodFrom templateOf getResponseBytes selectBytes getDataBytes withLast statusOf bytesAt fieldValue objectTag charBit sentBit bytesOf valuesFrom valuesOf packRefusal packOf keyOf table answer real object place partIn realDate daysIn objectOf objectFrom fieldsAnswer fieldsFrom rowField fieldFrom rowsOf onlyOf onlyFrom headerOf afterTag endingOf tagSize tagNumber lengthSize lengthOf unpackOf unpackRefusal bitAt valueAt oddAt valuesIn digitsFrom marksFrom decimalAt checkValue all listOf sliceOf xorOf
 twelve = refl

@@ -1,19 +1,18 @@
 -- The texts of what the readers of TLVs, templates, data objects and dates say.
 -- Assumes nothing.
 use mathlib.Core.Bool.{Bool, cond, _&&_}
-use mathlib.Core.List.{List, [], _∷_, _++_}
-use Prim.Native.Nat.{ℕ, _+_, _*_, _/_, _%_}
+use mathlib.Core.List.{List, [], _∷_, _++_, map}
+use Prim.Native.Nat.{ℕ, _+_, _-_, _*_, _/_, _%_}
 use lib.Dec.{eqb, ltb}
-use lib.ListN.{length, getD}
+use lib.ListN.{length, getD, take}
 use Rattle.common.specs.Lists.{all, number}
 use Rattle.card.specs.Tlv.{tagBytes, headerOf}
 use Rattle.card.specs.Template.{templateOf}
-use Rattle.card.specs.Object.{bufferLengthTag, fascnTag, agencyTag, organizationTag, dunsTag, guidTag, expiryTag, signatureTag, fingersTag, rowsOf, objectOf, partIn}
+use Rattle.card.specs.Object.{rowTag, rowsOf, objectOf, partIn}
 use Rattle.card.specs.Date.{realDate, dateOf}
 use Rattle.card.specs.declared.tlv.Header.{Header}
 use Rattle.card.specs.declared.tlv.Header.the-variants.{Whole, Malformed}
 use Rattle.card.specs.declared.object.Kind.{Kind}
-use Rattle.card.specs.declared.object.Kind.the-variants.{Signed, Unsigned, Fingers}
 use Rattle.card.specs.declared.object.Part.{Part}
 use Rattle.text.specs.Hex.{hexOf}
 use Rattle.vectors.specs.Append.{textsOf, numberText, causeText, noVector}
@@ -75,11 +74,9 @@ fieldText k parts i tag = commaBefore i ++ hexOf (tag ∷ []) ++ partText (partI
 abbrev pub shownText : Kind → List Part → List ℕ → List ℕ
 shownText k parts tags = textsOf (length tags) (λ i. fieldText k parts i (getD tags i 0))
 
--- The tags of the fields that are shown of an object: a row for each kind.
+-- The tags of the fields that are shown of an object: those of its rows but the last, FE.
 unfoldable pub shownTags : Kind → List ℕ
-shownTags Signed = bufferLengthTag ∷ fascnTag ∷ agencyTag ∷ organizationTag ∷ dunsTag ∷ guidTag ∷ expiryTag ∷ signatureTag ∷ []
-shownTags Unsigned = bufferLengthTag ∷ fascnTag ∷ agencyTag ∷ organizationTag ∷ dunsTag ∷ guidTag ∷ expiryTag ∷ []
-shownTags Fingers = fingersTag ∷ []
+shownTags k = let rows = rowsOf k in map rowTag (take (length rows - 1) rows)
 
 -- The fields, or the cause by which the object is refused.
 unfoldable pub objectText : Kind → List ℕ → List ℕ

@@ -1,25 +1,26 @@
 -- `vectors::answer::object::add_shown` meets its contract: by the kind. Assumes nothing.
 use borrow.Author.Needs.{needs}
+use Rattle.card.specs.Object.{rowsOf}
 use Rattle.vectors.specs.ObjectText.{shownTags}
 use Rattle.vectors.proofs.answer.object.add_shown.Statement.{statement}
 use Rattle.vectors.proofs.answer.object.add_shown.Tie as tie
 
 returns : tie.Need-returns
-unfolding shownTags
+unfolding shownTags rowsOf
 returns c =
     let at-add-fields = c .before .before in
     let at-enum-told = at-add-fields .before .before .before in
     rw (at-enum-told .enum-told .given .1) (at-add-fields .add-fields .ensures)
 
 returns-2 : tie.Need-returns-2
-unfolding shownTags
+unfolding shownTags rowsOf
 returns-2 c =
     let at-add-fields2 = c .before .before in
     let at-enum-told2 = at-add-fields2 .before .before .before in
     rw (at-enum-told2 .enum-told2 .given .1) (at-add-fields2 .add-fields2 .ensures)
 
 returns-3 : tie.Need-returns-3
-unfolding shownTags
+unfolding shownTags rowsOf
 returns-3 c =
     let at-add-fields3 = c .before .before in
     let at-enum-told3 = at-add-fields3 .before .before .before in
