@@ -172,7 +172,7 @@ fn next_field(v: &[u8], base: usize, row: Row, at: usize) -> Field
         part: EMPTY,
         next: at,
     };
-    // all tags of rows are one byte: where another stands, there is no need to read the TLV
+    // the tag of a row is one byte: where another byte stands, no TLV has to be read. A byte that opens a longer tag, which no row has, would be told apart by the tag below
     if slice::byte(v, at) != row.0 {
         return absent;
     }

@@ -1,23 +1,26 @@
--- Document 01's proofreader's twelve, the stamp of its printed example, commands after a 6C (document 02, request 1), and its object with the older elements (request 5):
+-- Document 01's proofreader's twelve, the stamp of its printed example, commands after a 6C (document 02, request 1), its object with the older elements, and the range of the parts (request 5):
 -- one table, and one theorem over it.
 -- Assumes nothing.
 use mathlib.Core.Path.{_≡_, refl}
 use mathlib.Core.Bool.{cond}
 use mathlib.Core.List.{List, [], _∷_, _++_, map}
 use Prim.Native.Nat.{ℕ}
-use lib.ListN.{replicate}
+use lib.ListN.{replicate, set}
 use Rattle.common.specs.Lists.{listOf, sliceOf, all, number, xorOf, sameBytes}
 use Rattle.common.specs.Decimal.{isDigitAt, spelled}
 use Rattle.card.specs.Date.{daysIn, realDate, goodDate, dateOf}
 use Rattle.card.specs.Template.{tlvsFrom, tlvsOf, every, wholeTo, lengthsOf, justOne, goodValue, goodFrom, templateOf}
 use Rattle.card.specs.Command.{getResponseBytes, selectBytes, getDataBytes, withLast, statusOf}
-use Rattle.card.specs.Object.{rowsOf, fieldFrom, rowField, fieldsFrom, fieldsAnswer, objectFrom, objectOf, partIn, bytesAt, fieldValue, objectTag}
+use Rattle.card.specs.Object.{part, empty, rowsOf, fieldFrom, rowField, fieldsFrom, fieldsAnswer, objectFrom, objectOf, partIn, bytesAt, fieldValue, objectTag}
 use Rattle.card.specs.Tlv.{tagSize, tagNumber, lengthSize, lengthOf, endingOf, afterTag, headerOf, onlyFrom, onlyOf}
 use Rattle.card.specs.declared.object.Kind.the-variants.{Unsigned}
+use Rattle.card.specs.declared.object.Part.{Part}
 use Rattle.card.specs.Fascn.{bitAt, valueAt, oddAt, valuesIn, digitsFrom, marksFrom, decimalAt, checkValue, unpackRefusal, unpackOf, charBit, sentBit, bytesOf, valuesFrom, valuesOf, packRefusal, packOf, keyOf}
 use Rattle.session.specs.Tables as tables
-use Rattle.session.specs.Reading.{Opening, Arguments, Reading, begins, nextCommand, commandRefused, answerRefused, goodEnd, judged, answerTaken, verdictRefused, read, reading}
+use Rattle.session.specs.Reading.{Opening, Arguments, Reading, begins, nextCommand, commandRefused, answerRefused, goodEnd, judged, answerTaken, verdictRefused, read, reading, fieldIn}
 use Rattle.session.specs.Finding.{finding, stampOf}
+use Rattle.session.specs.Ranges.{outcomesInRange, partsInside, rangedValues, valuesInRange, inRange}
+use Rattle.session.specs.Operation.{noParts, opened}
 
 -- The sample FASC-N without its last byte, and its digits.
 sample : List ℕ
@@ -87,6 +90,17 @@ older =
     (0x53 ∷ 0x42 ∷ 0xEE ∷ 0x02 ∷ []) ++ buffer-length ++ (0x30 ∷ 0x19 ∷ []) ++ sample ++ (0xe2 ∷ 0x31 ∷ 0x04 ∷ []) ++ agency ++ (0x32 ∷ 0x04 ∷ []) ++ organization ++ (0x33 ∷ 0x09 ∷ []) ++ duns
     ++ (0x35 ∷ 0x08 ∷ 0x32 ∷ 0x30 ∷ 0x31 ∷ 0x31 ∷ 0x30 ∷ 0x34 ∷ 0x31 ∷ 0x30 ∷ 0xfe ∷ 0x00 ∷ [])
 
+-- What a field call gives once this object is read.
+older-field : ℕ → List ℕ
+unfolding answered-by template opening older
+older-field tag = fieldIn (reading (begins (opening 20110410)) (answered-by template (answered-by (older ++ (0x90 ∷ 0x00 ∷ [])) []))) tag
+
+-- Whether a session in mode 4 is in range that has this part at a place among those of step 1, the other parts of step 1 empty, and this part of step 2: 1 for in range.
+with-parts : ℕ → Part → Part → List ℕ
+with-parts i one two =
+    let s = opened 4 20110410 (replicate 5 0) in
+    cond (inRange (record { opening = s .opening; progress = s .progress; outcomes = s .outcomes; card = record { fascn = s .card .fascn; expiry = 0; step1 = set noParts i one; step2 = two } })) 1 0 ∷ []
+
 -- The command after so many calls.
 next-after : List Arguments → List ℕ
 unfolding opening
@@ -95,9 +109,10 @@ next-after calls = nextCommand (reading (begins (opening 20110410)) calls)
 -- What the definitions give, beside what documents 01 and 02 say. Document 01: a, its check value, b, c; d, e, f, g; h, with 53 27 and with 53 81 27, where all starts are one more; i; j and k,
 -- the outcome of check 3 where the example is opened on its expiry, 20110410, and a day later; l; the example's stamp. Request 1 of document 02: the command after 6C 0D to SELECT, after
 -- 61 0D to that, after 6C 08 to the GET RESPONSE, and after 6C 29 to GET DATA. Request 5: the places of 30, 34 and 35 in the object
--- with the older elements; its fields EE, 31, 32 and 33; and the step whose object a field call looks for them in.
+-- with the older elements; what a field call gives of it for EE, 30, 31, 32, 33, 34, which is absent, and 35; and the session's range "field parts inside 8,192", with the first and the last part of step 1 and that of step 2, which begins at 4,096: they end at 8,192,
+-- or one of them a byte past it.
 pub table : List (List ℕ × List ℕ)
-unfolding sample digits fields opening template answered-by next-after buffer-length agency organization duns
+unfolding sample digits fields opening template answered-by next-after buffer-length agency organization duns older-field with-parts
 table =
     (answer (sample ++ (0xe2 ∷ [])), 0 ∷ digits)
     ∷ (checkValue (valuesIn (sample ++ (0xe2 ∷ []))) ∷ [], 8 ∷ [])
@@ -119,13 +134,20 @@ table =
     ∷ (next-after (answered-by (0x6C ∷ 0x0D ∷ []) (answered-by (0x61 ∷ 0x0D ∷ []) (answered-by (0x6C ∷ 0x08 ∷ []) []))), 0x00 ∷ 0xC0 ∷ 0x00 ∷ 0x00 ∷ 0x08 ∷ [])
     ∷ (next-after (answered-by template (answered-by (0x6C ∷ 0x29 ∷ []) [])), 0x00 ∷ 0xCB ∷ 0x3F ∷ 0xFF ∷ 0x05 ∷ 0x5C ∷ 0x03 ∷ 0x5F ∷ 0xC1 ∷ 0x04 ∷ 0x29 ∷ [])
     ∷ (object older, 0 ∷ 8 ∷ 25 ∷ 0 ∷ 0 ∷ 58 ∷ 8 ∷ [])
-    ∷ (fieldValue Unsigned 0xEE older, buffer-length)
-    ∷ (fieldValue Unsigned 0x31 older, agency)
-    ∷ (fieldValue Unsigned 0x32 older, organization)
-    ∷ (fieldValue Unsigned 0x33 older, duns)
-    ∷ (map tables.stepOfTag (0xEE ∷ 0x31 ∷ 0x32 ∷ 0x33 ∷ []), replicate 4 1)
+    ∷ (older-field 0xEE, buffer-length)
+    ∷ (older-field 0x30, sample ++ (0xe2 ∷ []))
+    ∷ (older-field 0x31, agency)
+    ∷ (older-field 0x32, organization)
+    ∷ (older-field 0x33, duns)
+    ∷ (older-field 0x34, [])
+    ∷ (older-field 0x35, 0x32 ∷ 0x30 ∷ 0x31 ∷ 0x31 ∷ 0x30 ∷ 0x34 ∷ 0x31 ∷ 0x30 ∷ [])
+    ∷ (with-parts 0 (part 8191 1) (part 4095 1), 1 ∷ [])
+    ∷ (with-parts 8 (part 8191 1) (part 4095 1), 1 ∷ [])
+    ∷ (with-parts 0 (part 8191 2) empty, 0 ∷ [])
+    ∷ (with-parts 8 (part 8191 2) empty, 0 ∷ [])
+    ∷ (with-parts 0 empty (part 4095 2), 0 ∷ [])
     ∷ []
 
 pub twelve : map (λ row. row .0) table ≡ map (λ row. row .1) table
-unfolding example older next-after opening template answered-by tables.stepOfTag tables.objectSize tables.capacity tables.needs tables.checkServed tables.neededAt tables.neededOutcomes tables.verdictOutcome tables.expiryOutcome tables.listOutcome tables.lowestFrom tables.causeOf tables.allPassed tables.standingOf tables.commandBytes tables.ruleCause tables.objectCause tables.joinedCause tables.stampLayout commandRefused answerRefused goodEnd judged answerTaken verdictRefused read finding stampOf number sameBytes isDigitAt spelled goodDate dateOf tlvsFrom tlvsOf every wholeTo lengthsOf justOne goodValue goodFrom templateOf getResponseBytes selectBytes getDataBytes withLast statusOf bytesAt fieldValue objectTag charBit sentBit bytesOf valuesFrom valuesOf packRefusal packOf keyOf table answer real object place partIn realDate daysIn objectOf objectFrom fieldsAnswer fieldsFrom rowField fieldFrom rowsOf onlyOf onlyFrom headerOf afterTag endingOf tagSize tagNumber lengthSize lengthOf unpackOf unpackRefusal bitAt valueAt oddAt valuesIn digitsFrom marksFrom decimalAt checkValue all listOf sliceOf xorOf
+unfolding example older older-field with-parts opened outcomesInRange partsInside rangedValues valuesInRange inRange tables.baseOf fieldIn next-after opening template answered-by tables.stepOfTag tables.objectSize tables.capacity tables.needs tables.checkServed tables.neededAt tables.neededOutcomes tables.verdictOutcome tables.expiryOutcome tables.listOutcome tables.lowestFrom tables.causeOf tables.allPassed tables.standingOf tables.commandBytes tables.ruleCause tables.objectCause tables.joinedCause tables.stampLayout commandRefused answerRefused goodEnd judged answerTaken verdictRefused read finding stampOf number sameBytes isDigitAt spelled goodDate dateOf tlvsFrom tlvsOf every wholeTo lengthsOf justOne goodValue goodFrom templateOf getResponseBytes selectBytes getDataBytes withLast statusOf bytesAt fieldValue objectTag charBit sentBit bytesOf valuesFrom valuesOf packRefusal packOf keyOf table answer real object place partIn realDate daysIn objectOf objectFrom fieldsAnswer fieldsFrom rowField fieldFrom rowsOf onlyOf onlyFrom headerOf afterTag endingOf tagSize tagNumber lengthSize lengthOf unpackOf unpackRefusal bitAt valueAt oddAt valuesIn digitsFrom marksFrom decimalAt checkValue all listOf sliceOf xorOf
 twelve = refl

@@ -1,4 +1,4 @@
--- Document 01's tables by mode, step, check and verdict kind, and its rules on single values, with request 1 of document 02. The reading of a list of calls and the operations on a
+-- Document 01's tables by mode, step, check and verdict kind, and its rules on single values, with requests 1 and 5 of document 02. The reading of a list of calls and the operations on a
 -- session share them, and each stands here once.
 -- Assumes nothing.
 use mathlib.Core.Bool.{Bool, true, false, cond, not, _&&_, _||_}
