@@ -1,9 +1,9 @@
 -- How the code keeps the rows of an object. No public contract cites it.
 -- Assumes nothing.
 use mathlib.Core.List.{List, _++_}
-use Prim.Native.Nat.{_-_}
+use Prim.Native.Nat.{ℕ, _-_}
 use lib.ListN.{length, replicate}
-use Rattle.card.specs.Object.{mostFields, required, rowsOf}
+use Rattle.card.specs.Object.{mostFields, required, firstRows, rowsOf}
 use Rattle.card.specs.declared.object.Kind.{Kind}
 use Rattle.card.specs.declared.object.Row.{Row}
 use Rattle.card.specs.declared.object.Layout.{Layout}
@@ -11,6 +11,10 @@ use Rattle.card.specs.declared.object.Layout.{Layout}
 -- A row that is none of an object's; and the rows of an object, filled up to the most with it, and how many they are.
 abbrev pub noRow : Row
 noRow = required 0 0 0
+
+-- A layout that begins with the first rows, of which n are an object's.
+abbrev pub afterFirst : ℕ → List Row → Layout
+afterFirst n rows = record { n = n; rows = firstRows ++ rows }
 
 unfoldable pub layoutOf : Kind → Layout
 layoutOf k =

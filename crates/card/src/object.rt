@@ -5,10 +5,11 @@ use crate::tlv;
 use crate::tlv::Header;
 use common::slice;
 ghost use mathlib.Core.Path.{_≡_};
+ghost use mathlib.Core.List.{[], _∷_};
 ghost use Prim.Native.Nat.{_+_, _≤_, _<_, _^_};
 ghost use lib.ListN.{length};
 ghost use Rattle.card.specs.Object.{rowsOf, rowField, fieldsFrom, fieldsAnswer, objectNumber, objectAnswer, objectOf, partIn};
-ghost use Rattle.card.specs.ObjectCode.{layoutOf};
+ghost use Rattle.card.specs.ObjectCode.{afterFirst, layoutOf};
 
 // The objects that a reading asks for: 5FC102, 5FC104 and DFC103.
 pub enum Kind {
@@ -55,6 +56,11 @@ const AGENCY: Row = Row(AGENCY_TAG, 4, 4, true);
 const ORGANIZATION: Row = Row(ORGANIZATION_TAG, 4, 4, true);
 
 const DUNS: Row = Row(DUNS_TAG, 9, 9, true);
+
+// Rows that both have after these.
+const EXPIRY: Row = Row(EXPIRY_TAG, DATE_DIGITS, DATE_DIGITS, false);
+
+const END: Row = Row(END_TAG, 0, 0, false);
 
 // The most fields that an object has; `mostFields` in the definitions.
 pub const FIELDS: usize = 9;
@@ -111,39 +117,39 @@ pub struct Object {
     pub answer: ObjectAnswer,
 }
 
-// The rows of an object, in document 01's order, filled up with NONE.
+// A layout that begins with the first rows, and goes on with these.
+fn after_first(n: usize, sixth: Row, seventh: Row, eighth: Row, ninth: Row) -> Layout
+    ensures { λ r. ⌜ r ≡ afterFirst n (sixth ∷ seventh ∷ eighth ∷ ninth ∷ []) ⌝ }
+{
+    Layout {
+        n,
+        rows: [
+            BUFFER_LENGTH,
+            FASCN,
+            AGENCY,
+            ORGANIZATION,
+            DUNS,
+            sixth,
+            seventh,
+            eighth,
+            ninth,
+        ],
+    }
+}
+
+// The rows of an object, in the papers' order, filled up with NONE.
 fn layout_of(kind: Kind) -> Layout
     ensures { λ r. ⌜ r ≡ layoutOf kind ⌝ }
 {
     match kind {
-        Kind::Signed => Layout {
-            n: 9,
-            rows: [
-                BUFFER_LENGTH,
-                FASCN,
-                AGENCY,
-                ORGANIZATION,
-                DUNS,
-                Row(GUID_TAG, 16, 16, false),
-                Row(EXPIRY_TAG, DATE_DIGITS, DATE_DIGITS, false),
-                Row(SIGNATURE_TAG, 1, 2816, false),
-                Row(END_TAG, 0, 0, false),
-            ],
-        },
-        Kind::Unsigned => Layout {
-            n: 8,
-            rows: [
-                BUFFER_LENGTH,
-                FASCN,
-                AGENCY,
-                ORGANIZATION,
-                DUNS,
-                Row(GUID_TAG, 16, 16, true),
-                Row(EXPIRY_TAG, DATE_DIGITS, DATE_DIGITS, false),
-                Row(END_TAG, 0, 0, false),
-                NONE,
-            ],
-        },
+        Kind::Signed => after_first(
+            9,
+            Row(GUID_TAG, 16, 16, false),
+            EXPIRY,
+            Row(SIGNATURE_TAG, 1, 2816, false),
+            END,
+        ),
+        Kind::Unsigned => after_first(8, Row(GUID_TAG, 16, 16, true), EXPIRY, END, NONE),
         Kind::Fingers => Layout {
             n: 2,
             rows: [

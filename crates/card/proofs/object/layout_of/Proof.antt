@@ -7,11 +7,11 @@ use Rattle.card.proofs.object.layout_of.Tie as tie
 
 returns : tie.Need-returns
 unfolding layoutOf rowsOf
-returns c = rw (c .enum-told .given .1)
+returns c = rw (c .before .enum-told .given .1) (c .after-first .ensures)
 
 returns-2 : tie.Need-returns-2
 unfolding layoutOf rowsOf
-returns-2 c = rw (c .enum-told2 .given .1)
+returns-2 c = rw (c .before .enum-told2 .given .1) (c .after-first2 .ensures)
 
 returns-3 : tie.Need-returns-3
 unfolding layoutOf rowsOf
@@ -19,4 +19,4 @@ returns-3 c = rw (c .enum-told3 .given .1)
 
 pub layout-of-spec : {M : Type 1} → statement M
 layout-of-spec =
-    tie.close (tie.spec (λ c. search needs) (λ c. search needs) (λ c. search needs) returns returns-2 returns-3)
+    tie.close (tie.spec (λ c. search needs) (λ c κs. search needs) (λ c. search needs) (λ c κs. search needs) (λ c. search needs) returns returns-2 returns-3)
