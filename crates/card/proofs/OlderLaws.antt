@@ -75,7 +75,7 @@ made-fits k {v} m = let h = made-most m in lt-ltb (length v) 65536 (omega (arith
 -- ---- another choice of the four
 
 -- what is made for rows begins with the first row's field, and that may stand before anything else that is made for the rows after it
-record First (r : Row) (rs : List Row) (values : List (List ℕ)) : Type 0 where
+record FirstField (r : Row) (rs : List Row) (values : List (List ℕ)) : Type 0 where
   value : List ℕ
   later : List (List ℕ)
   these : values ≡ value ∷ later
@@ -83,9 +83,9 @@ record First (r : Row) (rs : List Row) (values : List (List ℕ)) : Type 0 where
   made : Made rs rest later
   again : (w : List ℕ) (others : List (List ℕ)) → Made rs w others → (v : List ℕ) × Made (r ∷ rs) v (value ∷ others)
 
-first : {r : Row} {rs : List Row} {v : List ℕ} {values : List (List ℕ)} → Made (r ∷ rs) v values → First r rs values
-first (left-out {v = v} {values} o m) = record { value = []; later = values; these = refl; rest = v; made = m; again = λ w others q. (w, left-out o q) }
-first (given {r} {v = v} {values} form value low high fits m) =
+first-field : {r : Row} {rs : List Row} {v : List ℕ} {values : List (List ℕ)} → Made (r ∷ rs) v values → FirstField r rs values
+first-field (left-out {v = v} {values} o m) = record { value = []; later = values; these = refl; rest = v; made = m; again = λ w others q. (w, left-out o q) }
+first-field (given {r} {v = v} {values} form value low high fits m) =
     record { value = value; later = values; these = refl; rest = v; made = m; again = λ w others q. (encoded form (r .0) value ++ w, given form value low high fits q) }
 
 -- an element with n bytes is given or left out before what is made for the rows after it
@@ -101,8 +101,8 @@ abbrev pub olderTags : List ℕ
 olderTags = bufferLengthTag ∷ agencyTag ∷ organizationTag ∷ dunsTag ∷ []
 
 -- a tag that is none of some tags
-apart : (tag t : ℕ) (later : Bool) → eqb tag t || later ≡ false → (eqb t tag ≡ false) × (later ≡ false)
-apart tag t later = go (eqb tag t) refl
+not-tag : (tag t : ℕ) (later : Bool) → eqb tag t || later ≡ false → (eqb t tag ≡ false) × (later ≡ false)
+not-tag tag t later = go (eqb tag t) refl
   where
     go : (x : Bool) → eqb tag t ≡ x → x || later ≡ false → (eqb t tag ≡ false) × (later ≡ false)
     go true p e = absurd (false≢true (sym e))
@@ -113,10 +113,10 @@ passed-over : (after : List Row) (ee fascn agency organization duns : List ℕ) 
     → valueIn (firstRows ++ after) (ee ∷ fascn ∷ agency ∷ organization ∷ duns ∷ later) tag ≡ cond (eqb fascnTag tag) fascn (valueIn after later tag)
 unfolding valueIn
 passed-over after ee fascn agency organization duns later tag none =
-    let a = apart tag bufferLengthTag _ none in
-    let b = apart tag agencyTag _ (a .1) in
-    let c = apart tag organizationTag _ (b .1) in
-    let d = apart tag dunsTag _ (c .1) in
+    let a = not-tag tag bufferLengthTag _ none in
+    let b = not-tag tag agencyTag _ (a .1) in
+    let c = not-tag tag organizationTag _ (b .1) in
+    let d = not-tag tag dunsTag _ (c .1) in
     rw (a .0, b .0, c .0, d .0)
 
 -- An object with these four elements, and in every other field what s has.
@@ -142,11 +142,11 @@ unfolding valueIn
 any-choice k after shape s bytes p ee agency organization duns f g h i =
     let o = object-made k s bytes p in
     let m : Made (firstRows ++ after) (o .1) (o .2) = subst (λ (rs : List Row). Made rs (o .1) (o .2)) shape (o .3) in
-    let a = first m in
-    let b = first (a .made) in
-    let c = first (b .made) in
-    let d = first (c .made) in
-    let e = first (d .made) in
+    let a = first-field m in
+    let b = first-field (a .made) in
+    let c = first-field (b .made) in
+    let d = first-field (c .made) in
+    let e = first-field (d .made) in
     let x = chosen organizationTag 4 (omega arith) organization h (chosen dunsTag 9 (omega arith) duns i (e .made) .1) in
     let y = b .again _ _ (chosen agencyTag 4 (omega arith) agency g (x .1) .1) in
     let z = chosen bufferLengthTag 2 (omega arith) ee f (y .1) in

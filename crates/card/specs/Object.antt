@@ -89,7 +89,7 @@ required tag low high = record { 0 = tag; 1 = low; 2 = high; 3 = false }
 abbrev pub optional : ℕ → ℕ → ℕ → Row
 optional tag low high = record { 0 = tag; 1 = low; 2 = high; 3 = true }
 
--- The rows with which the signed and the unsigned object begin: 30 (25 bytes), and about it "EE with 2 bytes may stand before 30. Straight after 30 may stand 31 (4 bytes),
+-- The rows with which the signed and the unsigned object begin: 30 (25 bytes), and around it "EE with 2 bytes may stand before 30. Straight after 30 may stand 31 (4 bytes),
 -- 32 (4) and 33 (9), in this order, each at most once. .. The unsigned object gains the same four." (document 02, request 5)
 abbrev pub firstRows : List Row
 firstRows =

@@ -12,7 +12,7 @@ use Rattle.card.specs.declared.object.Layout.{Layout}
 abbrev pub noRow : Row
 noRow = required 0 0 0
 
--- A layout that begins with the first rows, of which n are an object's.
+-- A layout that begins with the first rows and goes on with these; the first n of all are an object's.
 abbrev pub afterFirst : ℕ → List Row → Layout
 afterFirst n rows = record { n = n; rows = firstRows ++ rows }
 

@@ -117,7 +117,7 @@ pub struct Object {
     pub answer: ObjectAnswer,
 }
 
-// A layout that begins with the first rows, and goes on with these.
+// A layout that begins with the first rows and goes on with these; the first n of all are an object's.
 fn after_first(n: usize, sixth: Row, seventh: Row, eighth: Row, ninth: Row) -> Layout
     ensures { λ r. ⌜ r ≡ afterFirst n (sixth ∷ seventh ∷ eighth ∷ ninth ∷ []) ⌝ }
 {

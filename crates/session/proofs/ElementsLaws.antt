@@ -25,6 +25,23 @@ use Rattle.session.specs.Promise.{Bytes}
 use Rattle.session.proofs.RuleLaws.{joined-in-range}
 use Rattle.session.proofs.EndedLaws.{Ended, ended-stays, ended-for-good}
 
+-- ---- what the number of a call does not depend on
+
+-- a reading without its joined data and without what was found
+abbrev bare : Reading → Reading
+bare r =
+    let p = r .progress in
+    record { opening = r .opening; progress = record { step = p .step; cause = p .cause; sw1 = 0; sw2 = 0; joined = []; outstanding = p .outstanding; next = p .next }; outcomes = r .outcomes; found = record { step1 = Option.none; step2 = Option.none; verdicts = [] } }
+
+-- it gives every call the same number
+number-by : (r : Reading) (t : Arguments) → refusedBy r t ≡ refusedBy (bare r) t
+unfolding commandRefused answerRefused verdictRefused
+number-by r (Arguments.command room) = refl
+number-by r (Arguments.answer size bytes cancelled) = refl
+number-by r (Arguments.verdict kind yesNo fascn) = refl
+number-by r (Arguments.field size tag) = refl
+number-by r (Arguments.stamp room) = refl
+
 -- ---- two readings that differ in step 1's object alone
 
 -- field 35 of step 1's object
@@ -37,7 +54,7 @@ with-one r one =
     record { opening = r .opening; progress = r .progress; outcomes = r .outcomes; found = record { step1 = Option.some one; step2 = r .found .step2; verdicts = r .found .verdicts } }
 
 -- past step 1, two readings that are the same but for step 1's object, whose FASC-N and expiry are the same
-record Twins (q r : Reading) : Type 0 where
+record SameCard (q r : Reading) : Type 0 where
   base : Reading
   one : StepOne
   two : StepOne
@@ -53,7 +70,7 @@ finding-by r fascn expiry =
     let f = finding r in
     record { mode = f .mode; date = f .date; step = f .step; cause = f .cause; sw1 = f .sw1; sw2 = f .sw2; outcomes = f .outcomes; digits = Option.some (unpackOf fascn .1); expiry = Option.some (dateOf expiry .1) }
 
-same-finding : {q r : Reading} → Twins q r → finding q ≡ finding r
+same-finding : {q r : Reading} → SameCard q r → finding q ≡ finding r
 unfolding finding
 same-finding t = ap finding (t .left) ∙ ap₂ (finding-by (t .base)) (t .fascn) (t .expiry) ∙ sym (ap finding (t .right))
 
@@ -62,65 +79,60 @@ same-finding t = ap finding (t .left) ∙ ap₂ (finding-by (t .base)) (t .fascn
 module _ (b : Reading) (one two : StepOne) (late : 1 < b .progress .step) (fascn : fascnRead (b .opening .mode) (one .joined) ≡ fascnRead (b .opening .mode) (two .joined))
     (expiry : expiryField (b .opening .mode) (one .joined) ≡ expiryField (b .opening .mode) (two .joined)) where
   -- what else they have may change, in both
-  twins-with : (p : Progress) (outcomes : List ℕ) (found : Option (List ℕ)) (verdicts : List Verdict) → 1 < p .step
-      → let x : Reading = record { opening = b .opening; progress = p; outcomes = outcomes; found = record { step1 = Option.none; step2 = found; verdicts = verdicts } } in Twins (with-one x one) (with-one x two)
-  twins-with p outcomes found verdicts h = record { base = record { opening = b .opening; progress = p; outcomes = outcomes; found = record { step1 = Option.none; step2 = found; verdicts = verdicts } }; one = one; two = two; left = refl; right = refl; late = h; fascn = fascn; expiry = expiry }
+  same-with : (p : Progress) (outcomes : List ℕ) (found : Option (List ℕ)) (verdicts : List Verdict) → 1 < p .step
+      → let x : Reading = record { opening = b .opening; progress = p; outcomes = outcomes; found = record { step1 = Option.none; step2 = found; verdicts = verdicts } } in SameCard (with-one x one) (with-one x two)
+  same-with p outcomes found verdicts h = record { base = record { opening = b .opening; progress = p; outcomes = outcomes; found = record { step1 = Option.none; step2 = found; verdicts = verdicts } }; one = one; two = two; left = refl; right = refl; late = h; fascn = fascn; expiry = expiry }
 
-  judged-twins : (joined cancelled : List ℕ) → Twins (judged (with-one b one) joined cancelled) (judged (with-one b two) joined cancelled)
+  judged-same : (joined cancelled : List ℕ) → SameCard (judged (with-one b one) joined cancelled) (judged (with-one b two) joined cancelled)
   unfolding judged goodEnd
-  judged-twins joined cancelled =
-      by-test Twins _ _ _ _ (eqb (joinedCause (b .opening .mode) (b .progress .step) joined) 0)
-      (λ _. by-test Twins _ _ _ _ (eqb (b .progress .step) 0) (λ e. absurd (omega (arith, eqb-true (b .progress .step) 0 e, late)))
-      (λ _. by-test Twins _ _ _ _ (eqb (b .progress .step) 1) (λ e. absurd (omega (arith, eqb-true (b .progress .step) 1 e, late))) (λ _. twins-with _ _ _ _ (omega arith))))
-      (λ _. twins-with _ _ _ _ late)
+  judged-same joined cancelled =
+      by-test SameCard _ _ _ _ (eqb (joinedCause (b .opening .mode) (b .progress .step) joined) 0)
+      (λ _. by-test SameCard _ _ _ _ (eqb (b .progress .step) 0) (λ e. absurd (omega (arith, eqb-true (b .progress .step) 0 e, late)))
+      (λ _. by-test SameCard _ _ _ _ (eqb (b .progress .step) 1) (λ e. absurd (omega (arith, eqb-true (b .progress .step) 1 e, late))) (λ _. same-with _ _ _ _ (omega arith))))
+      (λ _. same-with _ _ _ _ late)
 
-  appended-twins : (status : Status) (joined cancelled : List ℕ) → Twins (appended status (with-one b one) joined cancelled) (appended status (with-one b two) joined cancelled)
-  appended-twins Done joined cancelled = judged-twins joined cancelled
-  appended-twins (More second) joined cancelled = twins-with _ _ _ _ late
-  appended-twins (Again last) joined cancelled = twins-with _ _ _ _ late
-  appended-twins Other joined cancelled = judged-twins joined cancelled
+  appended-same : (status : Status) (joined cancelled : List ℕ) → SameCard (appended status (with-one b one) joined cancelled) (appended status (with-one b two) joined cancelled)
+  appended-same Done joined cancelled = judged-same joined cancelled
+  appended-same (More second) joined cancelled = same-with _ _ _ _ late
+  appended-same (Again last) joined cancelled = same-with _ _ _ _ late
+  appended-same Other joined cancelled = judged-same joined cancelled
 
-  answer-twins : (bytes status cancelled : List ℕ) → Twins (answerTaken (with-one b one) bytes status cancelled) (answerTaken (with-one b two) bytes status cancelled)
+  answer-same : (bytes status cancelled : List ℕ) → SameCard (answerTaken (with-one b one) bytes status cancelled) (answerTaken (with-one b two) bytes status cancelled)
   unfolding answerTaken
-  answer-twins bytes status cancelled =
-      by-test Twins _ _ _ _ (eqb (causeBy (b .progress) (capacity (b .opening .mode) (b .progress .step)) (statusOf status) bytes) 0)
-      (λ _. appended-twins (statusOf status) (b .progress .joined ++ bytes) cancelled) (λ _. twins-with _ _ _ _ late)
+  answer-same bytes status cancelled =
+      by-test SameCard _ _ _ _ (eqb (causeBy (b .progress) (capacity (b .opening .mode) (b .progress .step)) (statusOf status) bytes) 0)
+      (λ _. appended-same (statusOf status) (b .progress .joined ++ bytes) cancelled) (λ _. same-with _ _ _ _ late)
 
-  accepted-twins : (t : Arguments) → Twins (accepted (with-one b one) t) (accepted (with-one b two) t)
-  accepted-twins (Arguments.command room) = twins-with _ _ _ _ late
-  accepted-twins (Arguments.answer size bytes cancelled) = answer-twins (dataOf bytes) (statusBytes bytes) cancelled
-  accepted-twins (Arguments.verdict kind yesNo fascn′) = rw fascn (twins-with _ _ _ _ late)
-  accepted-twins (Arguments.field size tag) = twins-with _ _ _ _ late
-  accepted-twins (Arguments.stamp room) = twins-with _ _ _ _ late
+  accepted-same : (t : Arguments) → SameCard (accepted (with-one b one) t) (accepted (with-one b two) t)
+  accepted-same (Arguments.command room) = same-with _ _ _ _ late
+  accepted-same (Arguments.answer size bytes cancelled) = answer-same (dataOf bytes) (statusBytes bytes) cancelled
+  accepted-same (Arguments.verdict kind yesNo fascn′) = rw fascn (same-with _ _ _ _ late)
+  accepted-same (Arguments.field size tag) = same-with _ _ _ _ late
+  accepted-same (Arguments.stamp room) = same-with _ _ _ _ late
 
   -- and is refused in both by one number
   same-number : (t : Arguments) → refusedBy (with-one b one) t ≡ refusedBy (with-one b two) t
-  unfolding commandRefused answerRefused verdictRefused
-  same-number (Arguments.command room) = refl
-  same-number (Arguments.answer size bytes cancelled) = refl
-  same-number (Arguments.verdict kind yesNo fascn′) = refl
-  same-number (Arguments.field size tag) = refl
-  same-number (Arguments.stamp room) = refl
+  same-number t = number-by (with-one b one) t ∙ sym (number-by (with-one b two) t)
 
-  read-twins : (t : Arguments) → Twins (read (with-one b one) t) (read (with-one b two) t)
+  read-same : (t : Arguments) → SameCard (read (with-one b one) t) (read (with-one b two) t)
   unfolding read
-  read-twins t = rw (same-number t) (by-test Twins _ _ _ _ (eqb (refusedBy (with-one b two) t) 0) (λ _. accepted-twins t) (λ _. twins-with _ _ _ _ late))
+  read-same t = rw (same-number t) (by-test SameCard _ _ _ _ (eqb (refusedBy (with-one b two) t) 0) (λ _. accepted-same t) (λ _. same-with _ _ _ _ late))
 
 -- ---- and so does every list of calls
 
-one-read : {q r : Reading} → Twins q r → (t : Arguments) → Twins (read q t) (read r t) × (refusedBy q t ≡ refusedBy r t)
+one-read : {q r : Reading} → SameCard q r → (t : Arguments) → SameCard (read q t) (read r t) × (refusedBy q t ≡ refusedBy r t)
 one-read {q} {r} w t =
-    let read-on = read-twins (w .base) (w .one) (w .two) (w .late) (w .fascn) (w .expiry) t in
+    let read-on = read-same (w .base) (w .one) (w .two) (w .late) (w .fascn) (w .expiry) t in
     let number = same-number (w .base) (w .one) (w .two) (w .late) (w .fascn) (w .expiry) t in (
-      subst (λ (x : Reading). Twins (read x t) (read r t)) (sym (w .left)) (subst (λ (y : Reading). Twins (read (with-one (w .base) (w .one)) t) (read y t)) (sym (w .right)) read-on),
+      subst (λ (x : Reading). SameCard (read x t) (read r t)) (sym (w .left)) (subst (λ (y : Reading). SameCard (read (with-one (w .base) (w .one)) t) (read y t)) (sym (w .right)) read-on),
       ap (λ (x : Reading). refusedBy x t) (w .left) ∙ number ∙ sym (ap (λ (x : Reading). refusedBy x t) (w .right)),
     )
 
-list-twins : {q r : Reading} → Twins q r → (ts : List Arguments) → Twins (reading q ts) (reading r ts) × (refusals q ts ≡ refusals r ts)
-list-twins w [] = (w, refl)
-list-twins w (t ∷ ts) =
+list-same : {q r : Reading} → SameCard q r → (ts : List Arguments) → SameCard (reading q ts) (reading r ts) × (refusals q ts ≡ refusals r ts)
+list-same w [] = (w, refl)
+list-same w (t ∷ ts) =
     let now = one-read w t in
-    let later = list-twins (now .0) ts in
+    let later = list-same (now .0) ts in
     (later .0, ap₂ (λ (n : ℕ) (ns : List ℕ). cond (hasNumber t) (n ∷ ns) ns) (now .1) (later .1))
 
 -- ---- two readings that a cause has ended, with unlike joined data
@@ -133,12 +145,7 @@ module _ (r : Reading) (p : Progress) (cause : ℕ) (xs ys : List ℕ) (ended : 
   stays-with joined = record { cause = ended; answered = refl; not-all-read = not-all-read }
 
   ended-number : (t : Arguments) → refusedBy (ended-with xs) t ≡ refusedBy (ended-with ys) t
-  unfolding commandRefused answerRefused verdictRefused
-  ended-number (Arguments.command room) = refl
-  ended-number (Arguments.answer size bytes cancelled) = refl
-  ended-number (Arguments.verdict kind yesNo fascn) = refl
-  ended-number (Arguments.field size tag) = refl
-  ended-number (Arguments.stamp room) = refl
+  ended-number t = number-by (ended-with xs) t ∙ sym (number-by (ended-with ys) t)
 
   ended-numbers : (ts : List Arguments) → refusals (ended-with xs) ts ≡ refusals (ended-with ys) ts
   ended-numbers [] = refl
@@ -168,8 +175,8 @@ module _ (r : Reading) (xs ys cancelled : List ℕ) (at-one : r .progress .step 
   abbrev outcomes-by : List ℕ → List ℕ → List ℕ
   outcomes-by own date = withOutcome (withOutcome (r .outcomes) 3 (expiryOutcome (r .opening .date) (dateOf date .1))) 4 (listOutcome (keyOf (unpackOf own .1)) cancelled)
 
-  good-twins : Twins (step1End r xs cancelled) (step1End r ys cancelled)
-  good-twins =
+  good-end-same : SameCard (step1End r xs cancelled) (step1End r ys cancelled)
+  good-end-same =
       let two : StepOne = record { joined = ys; cancelled = cancelled } in
       let base = step1End r xs cancelled in
       let same : step1End r ys cancelled ≡ with-one base two =
@@ -184,7 +191,7 @@ module _ (r : Reading) (xs ys cancelled : List ℕ) (at-one : r .progress .step 
       let k = joinedCause (r .opening .mode) 1 xs in
       let p : Progress = record { step = 1; cause = 0; sw1 = 0; sw2 = 0; joined = []; outstanding = false; next = r .progress .next } in
       rw (at-one, same-cause)
-      (by-test (SameAfter ts) _ _ _ _ (eqb k 0) (λ _. let w = list-twins good-twins ts in (same-finding (w .0), w .1))
+      (by-test (SameAfter ts) _ _ _ _ (eqb k 0) (λ _. let w = list-same good-end-same ts in (same-finding (w .0), w .1))
       (λ e. let past : ends k ≡ true = rw e at (joined-in-range (r .opening .mode) 1 xs) in (ended-finding r p k xs ys past refl ts, ended-numbers r p k xs ys past refl ts)))
 
 -- "A finding treats such an object as well formed.": take any object that step 1 accepts, and choose the elements EE, 31, 32 and 33 anew, each of its length or left out. There is an object with
