@@ -1516,7 +1516,7 @@ def main():
               "of its own and then what the program prints for that file. The last line printed is the stamp, or `(refused 4)` where no session is open.", "",
               "`mode`, `cause`, `step` and the numbers of checks, causes and refusals are document 01's. A name that begins with `cause_` has that cause in its stamp; one",
               "that ends in `_granted` has a stamp that says granted; one that begins with `refused_` and a number has a line refused with that number; one that begins with `bad_` has a bad line;",
-              "one that begins with `corrected_` has a 6C after which the same command is sent again.",
+              "one that begins with `corrected_` has a 6C after which the same command is sent again; one that begins with `older_` has an object with older elements.",
               "The last name of `args` is `.`, a directory: it cannot be read, so nothing is printed for it on standard output, no stamp either, and a line on standard error says so.",
               "The last column has the words of document 01 or 02 that decide the last line, or the reply to the line that the script is about.", ""]
     for title, entries in groups:
