@@ -23,11 +23,11 @@ use Rattle.session.specs.Reading.{StepOne, Verdict, Arguments, Progress,
 use Rattle.session.specs.Finding.{Finding, finding}
 use Rattle.session.specs.Promise.{Bytes}
 use Rattle.session.proofs.RuleLaws.{joined-in-range}
-use Rattle.session.proofs.EndedLaws.{Ended, ended-stays, ended-for-good}
+use Rattle.session.proofs.EndedLaws.{Ended, ended-stays, ended-list}
 
 -- ---- what the number of a call does not depend on
 
--- a reading without its joined data and without what was found
+-- a reading without its status word, its joined data and what was found
 abbrev bare : Reading → Reading
 bare r =
     let p = r .progress in
@@ -156,7 +156,7 @@ module _ (r : Reading) (p : Progress) (cause : ℕ) (xs ys : List ℕ) (ended : 
 
   ended-finding : (ts : List Arguments) → finding (reading (ended-with xs) ts) ≡ finding (reading (ended-with ys) ts)
   unfolding finding
-  ended-finding ts = rw (ended-for-good (ended-with xs) (stays-with xs) ts, ended-for-good (ended-with ys) (stays-with ys) ts)
+  ended-finding ts = rw (ended-list (ended-with xs) (stays-with xs) ts, ended-list (ended-with ys) (stays-with ys) ts)
 
 -- ---- two objects of step 1
 

@@ -6,16 +6,20 @@ use mathlib.Core.List.{List, [], _∷_, _++_, map}
 use Prim.Native.Nat.{ℕ, _+_, _<_}
 use native.Mathlib.Numerals.{add-one}
 use lib.Dec.{eqb}
-use lib.ListN.{length, getD, drop}
+use lib.ListN.{length, getD, take, drop}
 use lib.Seq.{drop-cons}
 use Rattle.card.specs.Object.{rowTag, endTag, rowsOf}
-use Rattle.card.specs.declared.object.Kind.the-variants.{Signed, Fingers}
+use Rattle.card.specs.declared.object.Kind.the-variants.{Signed, Unsigned, Fingers}
 use Rattle.session.specs.Tables.{failed, otherCard, lowestFrom, step1Tags, step2Tags}
 
--- a field call may ask for every field of a signed object and of a fingers object but the last, FE; those of an unsigned object are among these
+-- a field call may ask for every field of an object but the last, FE; those of an unsigned object are the first seven of step 1's tags
 pub signed-asked : map rowTag (rowsOf Signed) ≡ step1Tags ++ (endTag ∷ [])
 unfolding rowsOf
 signed-asked = refl
+
+pub unsigned-asked : map rowTag (rowsOf Unsigned) ≡ take 7 step1Tags ++ (endTag ∷ [])
+unfolding rowsOf
+unsigned-asked = refl
 
 pub fingers-asked : map rowTag (rowsOf Fingers) ≡ step2Tags ++ (endTag ∷ [])
 unfolding rowsOf
