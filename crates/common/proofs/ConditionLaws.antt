@@ -2,7 +2,7 @@
 -- Assumes nothing.
 use mathlib.Core.Path.{_≡_, refl, sym, ap}
 use mathlib.Core.Bool.{Bool, true, false, cond, not, _&&_, _||_}
-use mathlib.Core.List.{List, [], _∷_}
+use mathlib.Core.List.{List, [], _∷_, _++_}
 use Prim.Native.Nat.{ℕ, suc}
 use native.Mathlib.Omega.{arith}
 use lib.Dec.{eqb}
@@ -25,6 +25,18 @@ pub none-fit : (rs : List (ℕ × Bool)) → numbered rs ≡ true → refusalOf 
 none-fit [] n e = tt
 none-fit ((k, true) ∷ rs) n e = absurd (eqb-false k 0 (not-true (eqb k 0) (and-left (not (eqb k 0)) (numbered rs) n)) e)
 none-fit ((k, false) ∷ rs) n e = (refl, none-fit rs (and-right (not (eqb k 0)) (numbered rs) n) e)
+
+-- conditions after others: where none of either fits, none of each does
+pub none-of-both : (rs us : List (ℕ × Bool)) → numbered rs ≡ true → refusalOf (rs ++ us) ≡ 0 → (refusalOf rs ≡ 0) × (refusalOf us ≡ 0)
+none-of-both [] us n e = (refl, e)
+none-of-both ((k, true) ∷ rs) us n e = absurd (eqb-false k 0 (not-true (eqb k 0) (and-left (not (eqb k 0)) (numbered rs) n)) e)
+none-of-both ((k, false) ∷ rs) us n e = none-of-both rs us (and-right (not (eqb k 0)) (numbered rs) n) e
+
+-- and the number is that of the first list where one of it fits, else that of the second
+pub refusal-append : (rs us : List (ℕ × Bool)) → numbered rs ≡ true → refusalOf (rs ++ us) ≡ cond (eqb (refusalOf rs) 0) (refusalOf us) (refusalOf rs)
+refusal-append [] us n = refl
+refusal-append ((k, true) ∷ rs) us n = rw (not-true (eqb k 0) (and-left (not (eqb k 0)) (numbered rs) n))
+refusal-append ((k, false) ∷ rs) us n = refusal-append rs us (and-right (not (eqb k 0)) (numbered rs) n)
 
 -- a number is one of the list's, or 0
 abbrev pub names : ℕ → List (ℕ × Bool) → Bool

@@ -13,45 +13,23 @@ use lib.Seq.{take-at}
 use Rattle.common.specs.Lists.{overFront}
 use Rattle.card.specs.Date.{realDate}
 use Rattle.common.proofs.ListsLaws.{front-at}
-use Rattle.session.specs.Tables.{modeOpens, stampSize}
+use Rattle.session.specs.Tables.{modeOpens, standsGranted, stampSize}
 use Rattle.session.specs.Condition.{openConditions}
 use Rattle.session.specs.Reading.{Arguments, refusedBy}
-use Rattle.session.specs.Finding.{Finding, finding, standing, stampOf}
-use Rattle.session.specs.Operation.{replyNumber, given, commandGiven, dead, opened, openRefusal, openOf, commandOf, commandBuffer, answerRefusal, answerOf, answerBuffer, verdictOf, fieldOf, stampAnswer, stampBuffer}
-use Rattle.session.specs.Promise.{Call, argumentsOf, Host, callNumber, hostAfter, runCalls, Bytes, LentNow, Lent, goodOpening, History, startHost, finish, readingOf, stampFor, ExtendedBy, OpenedBy, OpenPromise, CommandPromise, AnswerPromise, VerdictPromise, FieldPromise, StampPromise}
+use Rattle.session.specs.Finding.{Finding, finding, standing, stampOf, Granted}
+use Rattle.session.specs.Operation.{replyNumber, given, commandGiven, dead, opened, openRefusal, openOf, commandOf, commandBuffer, answerRefusal, answerOf, answerBuffer, verdictOf, fieldOf, stampAnswer, stampBuffer, previewRefusal, previewBuffer}
+use Rattle.session.specs.Promise.{Call, argumentsOf, Host, callNumber, hostAfter, runCalls, Bytes, LentNow, Lent, goodOpening, History, startHost, finish, readingOf, stampFor, previewFor, OpenedBy, OpenPromise, CommandPromise, AnswerPromise, VerdictPromise, FieldPromise, StampPromise, PreviewPromise}
 use Rattle.session.specs.declared.state.Session.{Session}
+use Rattle.session.specs.declared.state.Reply.{Reply}
 use Rattle.session.specs.declared.state.Answered.{Answered}
 use Rattle.session.specs.declared.state.Commanded.{Commanded}
 use Rattle.common.proofs.TestLaws.{and-both}
 use Rattle.session.proofs.FigureLaws.{opens-in-range, stamp-long}
 use Rattle.common.proofs.ConditionLaws.{none-fit}
 use Rattle.session.proofs.StampLaws.{stamp-length, stamp-second}
-use Rattle.session.proofs.RunLaws.{zero-or, number-is}
-use Rattle.session.proofs.PromiseLaws.{reached, promise}
-
--- ---- one call more
-
-run-more : (cs : List Call) (h : Host) (c : Call) → runCalls h (cs ++ (c ∷ [])) ≡ hostAfter (runCalls h cs) c
-run-more [] h c = refl
-run-more (x ∷ cs) h c = run-more cs (hostAfter h x) c
-
-lent-more : (cs : List Call) (h : Host) (c : Call) → Lent h cs → LentNow (runCalls h cs) c → Lent h (cs ++ (c ∷ []))
-lent-more [] h c l k = (k, tt)
-lent-more (x ∷ cs) h c l k = (l .0, lent-more cs (hostAfter h x) c (l .1) k)
-
-pub extended : (h : History) (c : Call) (s : Session) (object : List ℕ) → LentNow (finish h) c → hostAfter (finish h) c ≡ record { session = s; object = object } → ExtendedBy h c s object
-extended h c s object l e =
-    record {
-      history = record { opening = h .opening; good = h .good; object = h .object; calls = h .calls ++ (c ∷ []); lent = lent-more (h .calls) (startHost h) c (h .lent) l };
-      opening = refl;
-      buffer = refl;
-      calls = refl;
-      host = run-more (h .calls) (startHost h) c ∙ e;
-    }
-
--- the number of a call made next is the reading's
-number-next : (h : History) (c : Call) → callNumber (finish h) c ≡ refusedBy (readingOf h) (argumentsOf c)
-number-next h c = let a = reached h in ap (λ (x : Host). callNumber x c) (a .same) ∙ number-is (readingOf h) (a .object) c (a .holds)
+use Rattle.session.proofs.RunLaws.{zero-or}
+use Rattle.session.proofs.HistoryLaws.{with-call, extended}
+use Rattle.session.proofs.PromiseLaws.{reached, number-next, promise}
 
 -- ---- open
 
@@ -142,22 +120,19 @@ front-take : (n : ℕ) (x l : List ℕ) → length x ≡ n → take n (overFront
 unfolding overFront
 front-take n x l e = take-at x (drop (length x) l) n e
 
-pub stamp-promise : (s : Session) (before left : List ℕ) (r : Answered) → given r ≡ stampAnswer s (length before) → left ≡ stampBuffer s before → StampPromise s before left r
-stamp-promise s before left r e b h es =
+-- what 45 bytes say that are the stamp of a history
+record Says (h : History) (left : List ℕ) : Type 0 where
+  granted : (getD left 1 0 ≡ standsGranted) ↔ Granted (readingOf h)
+  apart : (u : History) → (take stampSize left ≡ stampOf (finding (readingOf u))) ↔ (finding (readingOf h) ≡ finding (readingOf u))
+
+says : (h : History) (before left : List ℕ) → left ≡ overFront (stampOf (finding (readingOf h))) before → Says h left
+says h before left written =
     let p = promise h in
     let f = finding (readingOf h) in
     let size : length (stampOf f) ≡ stampSize = stamp-length (readingOf h) (reached h .object) (reached h .holds) in
-    let g : given r ≡ stampAnswer (finish h .session) (length before) = e ∙ ap (λ (x : Session). stampAnswer x (length before)) es in
-    let bytes : left ≡ stampFor (readingOf h) before = b ∙ ap (λ (x : Session). stampBuffer x before) es ∙ p .stamp-bytes before in
-    let number : replyNumber (r .reply) ≡ refusedBy (readingOf h) (Arguments.stamp (length before)) = ap (λ (x : ℕ × Session). x .0) g ∙ p .stamp-number before in
-    let written : replyNumber (r .reply) ≡ 0 → left ≡ overFront (stampOf f) before =
-    λ z. bytes ∙ ap (λ (t : Bool). cond t (overFront (stampOf f) before) before) (eq-eqb _ 0 (sym number ∙ z)) in
     record {
-      number = number;
-      bytes = bytes;
-      granted = λ z. by-byte f (ap (λ (l : List ℕ). getD l 1 0) (written z) ∙ front-at (stampOf f) before 1 (omega (arith, size, stamp-long)) ∙ stamp-second f) (p .granted);
-      apart = λ z u. by-stamp f (finding (readingOf u)) (ap (take stampSize) (written z) ∙ front-take stampSize (stampOf f) before size) (p .apart u);
-      extended = extended h (Call.stamp before) (r .session) (finish h .object) tt (ap (λ (x : ℕ × Session). record { session = x .1; object = finish h .object }) (sym g));
+      granted = by-byte f (ap (λ (l : List ℕ). getD l 1 0) written ∙ front-at (stampOf f) before 1 (omega (arith, size, stamp-long)) ∙ stamp-second f) (p .granted);
+      apart = λ u. by-stamp f (finding (readingOf u)) (ap (take stampSize) written ∙ front-take stampSize (stampOf f) before size) (p .apart u);
     }
   where
     by-byte : (f : Finding) {n : ℕ} {G : Type 0} → n ≡ standing f → (standing f ≡ 1) ↔ G → (n ≡ 1) ↔ G
@@ -165,6 +140,42 @@ stamp-promise s before left r e b h es =
 
     by-stamp : (f u : Finding) {l : List ℕ} {G : Type 0} → l ≡ stampOf f → (stampOf f ≡ stampOf u) ↔ G → (l ≡ stampOf u) ↔ G
     by-stamp f u e (to, back) = (λ z. to (sym e ∙ z), λ z. e ∙ back z)
+
+-- a call that is not refused has written
+has-written : (k : ℕ) (x y : List ℕ) {n : ℕ} {left : List ℕ} → n ≡ k → left ≡ cond (eqb k 0) x y → n ≡ 0 → left ≡ x
+has-written k x y e w z = w ∙ ap (λ (t : Bool). cond t x y) (eq-eqb k 0 (sym e ∙ z))
+
+pub stamp-promise : (s : Session) (before left : List ℕ) (r : Answered) → given r ≡ stampAnswer s (length before) → left ≡ stampBuffer s before → StampPromise s before left r
+stamp-promise s before left r e b h es =
+    let p = promise h in
+    let g : given r ≡ stampAnswer (finish h .session) (length before) = e ∙ ap (λ (x : Session). stampAnswer x (length before)) es in
+    let bytes : left ≡ stampFor (readingOf h) before = b ∙ ap (λ (x : Session). stampBuffer x before) es ∙ p .stamp-bytes before in
+    let number : replyNumber (r .reply) ≡ refusedBy (readingOf h) (Arguments.stamp (length before)) = ap (λ (x : ℕ × Session). x .0) g ∙ p .stamp-number before in
+    record {
+      number = number;
+      bytes = bytes;
+      granted = λ z. says h before left (has-written _ _ _ number bytes z) .granted;
+      apart = λ z. says h before left (has-written _ _ _ number bytes z) .apart;
+      extended = extended h (Call.stamp before) (r .session) (finish h .object) tt (ap (λ (x : ℕ × Session). record { session = x .1; object = finish h .object }) (sym g));
+    }
+
+-- ---- preview
+
+pub preview-promise : (s : Session) (kind yesNo : ℕ) (fascn before left : List ℕ) (r : Reply) → replyNumber r ≡ previewRefusal s kind yesNo fascn (length before) → left ≡ previewBuffer s kind yesNo fascn before
+    → PreviewPromise s kind yesNo fascn before left r
+preview-promise s kind yesNo fascn before left r e b h es =
+    let p = promise h in
+    let v = with-call h (Call.verdict kind yesNo fascn) tt in
+    let bytes : left ≡ previewFor h kind yesNo fascn before = b ∙ ap (λ (x : Session). previewBuffer x kind yesNo fascn before) es ∙ p .preview-bytes kind yesNo fascn before in
+    let number : replyNumber r ≡ refusedBy (readingOf h) (Arguments.preview kind yesNo fascn (length before)) =
+    e ∙ ap (λ (x : Session). previewRefusal x kind yesNo fascn (length before)) es ∙ p .preview-number kind yesNo fascn before in
+    record {
+      number = number;
+      bytes = bytes;
+      granted = λ z. says v before left (has-written _ _ _ number bytes z) .granted;
+      apart = λ z. says v before left (has-written _ _ _ number bytes z) .apart;
+      extended = extended h (Call.preview kind yesNo fascn before) s (finish h .object) tt (ap (λ (x : Session). record { session = x; object = finish h .object }) (sym es));
+    }
 
 -- ---- the clauses of each contract together
 
@@ -188,3 +199,7 @@ field-both s object tag value e = (e, field-promise s object tag value e)
 pub stamp-all : (s : Session) (before left : List ℕ) (r : Answered) → given r ≡ stampAnswer s (length before) → left ≡ stampBuffer s before
     → (given r ≡ stampAnswer s (length before)) × ((left ≡ stampBuffer s before) × StampPromise s before left r)
 stamp-all s before left r e b = (e, (b, stamp-promise s before left r e b))
+
+pub preview-all : (s : Session) (kind yesNo : ℕ) (fascn before left : List ℕ) (r : Reply) → replyNumber r ≡ previewRefusal s kind yesNo fascn (length before) → left ≡ previewBuffer s kind yesNo fascn before
+    → (replyNumber r ≡ previewRefusal s kind yesNo fascn (length before)) × ((left ≡ previewBuffer s kind yesNo fascn before) × PreviewPromise s kind yesNo fascn before left r)
+preview-all s kind yesNo fascn before left r e b = (e, (b, preview-promise s kind yesNo fascn before left r e b))

@@ -40,6 +40,7 @@ statusIn (Arguments.answer size bytes cancelled) = statusOf (statusBytes bytes)
 statusIn (Arguments.verdict kind yesNo fascn) = Done
 statusIn (Arguments.field size tag) = Done
 statusIn (Arguments.stamp room) = Done
+statusIn (Arguments.preview kind yesNo fascn room) = Done
 
 -- The status of the last answer that is taken of a list of calls; the first argument where none is.
 abbrev pub lastStatus : Status → Reading → List Arguments → Status
@@ -88,6 +89,7 @@ call-last r (Arguments.answer size bytes cancelled) before m =
 call-last r (Arguments.verdict kind yesNo fascn) before m = by-and (LastOf before Done) false (eqb (verdictRefused r kind yesNo fascn) 0) (verdictTaken r kind yesNo fascn) r m (λ _. m)
 call-last r (Arguments.field size tag) before m = by-and (LastOf before Done) false (eqb (refusedBy r (Arguments.field size tag)) 0) r r m (λ _. m)
 call-last r (Arguments.stamp room) before m = by-and (LastOf before Done) false (eqb (refusedBy r (Arguments.stamp room)) 0) r r m (λ _. m)
+call-last r (Arguments.preview kind yesNo fascn room) before m = by-and (LastOf before Done) false (eqb (refusedBy r (Arguments.preview kind yesNo fascn room)) 0) r r m (λ _. m)
 
 list-last : (ts : List Arguments) (r : Reading) (before : Status) → LastWas before r → LastWas (lastStatus before r ts) (reading r ts)
 list-last [] r before m = m

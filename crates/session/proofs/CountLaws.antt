@@ -212,6 +212,7 @@ spends r (Arguments.verdict kind yesNo fascn) h =
     by-call false r (verdictTaken r kind yesNo fascn) (eqb (verdictRefused r kind yesNo fascn) 0) h (λ e. spends-none (r .opening .mode) (r .progress) h)
 spends r (Arguments.field size tag) h = by-call false r r (eqb (refusedBy r (Arguments.field size tag)) 0) h (λ e. spends-none (r .opening .mode) (r .progress) h)
 spends r (Arguments.stamp room) h = by-call false r r (eqb (refusedBy r (Arguments.stamp room)) 0) h (λ e. spends-none (r .opening .mode) (r .progress) h)
+spends r (Arguments.preview kind yesNo fascn room) h = by-call false r r (eqb (refusedBy r (Arguments.preview kind yesNo fascn room)) 0) h (λ e. spends-none (r .opening .mode) (r .progress) h)
 
 -- no call changes the mode
 abbrev Stays : Reading → Reading → Type 0
@@ -243,6 +244,7 @@ mode-stays r (Arguments.answer size bytes cancelled) =
 mode-stays r (Arguments.verdict kind yesNo fascn) = either (Stays r) (eqb (verdictRefused r kind yesNo fascn) 0) {x = verdictTaken r kind yesNo fascn} refl refl
 mode-stays r (Arguments.field size tag) = refl
 mode-stays r (Arguments.stamp room) = either (Stays r) (eqb (refusedBy r (Arguments.stamp room)) 0) refl refl
+mode-stays r (Arguments.preview kind yesNo fascn room) = either (Stays r) (eqb (refusedBy r (Arguments.preview kind yesNo fascn room)) 0) refl refl
 
 countable-on : (r : Reading) (t : Arguments) → Countable (r .opening .mode) (read r t .progress) → Countable (read r t .opening .mode) (read r t .progress)
 countable-on r t c = subst (λ (n : ℕ). Countable n (read r t .progress)) (sym (mode-stays r t)) c
@@ -264,6 +266,7 @@ takes-below r (Arguments.answer size bytes cancelled) h e =
 takes-below r (Arguments.verdict kind yesNo fascn) h e = clash e
 takes-below r (Arguments.field size tag) h e = clash e
 takes-below r (Arguments.stamp room) h e = clash e
+takes-below r (Arguments.preview kind yesNo fascn room) h e = clash e
 
 one-of-three : (b : Bool) (s : ℕ) → (b ≡ true → s < 3) → cond b 1 0 ≤ cond (b && eqb s 0) 1 0 + cond (b && eqb s 1) 1 0 + cond (b && eqb s 2) 1 0
 one-of-three false s f = omega arith

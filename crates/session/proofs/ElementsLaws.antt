@@ -19,7 +19,7 @@ use Rattle.card.specs.declared.command.Status.the-variants.{Done, More, Again, 
 use Rattle.card.proofs.OlderLaws.{LengthOrNone, WithElements, AnyElements, signed-elements, unsigned-elements}
 use Rattle.common.proofs.TestLaws.{by-test, either}
 use Rattle.session.specs.Tables.{ends, withOutcome, expiryOutcome, listOutcome, hasStep2, kindAt, capacity, dataOf, statusBytes, fascnRead, joinedCause, objectCause}
-use Rattle.session.specs.Reading.{StepOne, Verdict, Arguments, Progress, Reading, withProgress, stopped, causeBy, commandRefused, answerRefused, verdictRefused, step1End, goodEnd, judged, appended, answerTaken, hasNumber, refusedBy, accepted, read, reading, refusals}
+use Rattle.session.specs.Reading.{StepOne, Verdict, Arguments, Progress, Reading, withProgress, stopped, causeBy, commandRefused, answerRefused, verdictRefused, previewRefused, step1End, goodEnd, judged, appended, answerTaken, hasNumber, refusedBy, accepted, read, reading, refusals}
 use Rattle.session.specs.Finding.{Finding, finding}
 use Rattle.session.specs.Promise.{Bytes}
 use Rattle.session.proofs.RuleLaws.{joined-in-range}
@@ -35,12 +35,13 @@ bare r =
 
 -- it gives every call the same number
 number-by : (r : Reading) (t : Arguments) → refusedBy r t ≡ refusedBy (bare r) t
-unfolding commandRefused answerRefused verdictRefused
+unfolding commandRefused answerRefused verdictRefused previewRefused
 number-by r (Arguments.command room) = refl
 number-by r (Arguments.answer size bytes cancelled) = refl
 number-by r (Arguments.verdict kind yesNo fascn) = refl
 number-by r (Arguments.field size tag) = refl
 number-by r (Arguments.stamp room) = refl
+number-by r (Arguments.preview kind yesNo fascn room) = refl
 
 -- ---- two readings that differ in step 1's object alone
 
@@ -109,6 +110,7 @@ module _ (b : Reading) (one two : StepOne) (late : 1 < b .progress .step) (fascn
   accepted-same (Arguments.verdict kind yesNo fascn′) = rw fascn (same-with _ _ _ _ late)
   accepted-same (Arguments.field size tag) = same-with _ _ _ _ late
   accepted-same (Arguments.stamp room) = same-with _ _ _ _ late
+  accepted-same (Arguments.preview kind yesNo fascn′ room) = same-with _ _ _ _ late
 
   -- and is refused in both by one number
   same-number : (t : Arguments) → refusedBy (with-one b one) t ≡ refusedBy (with-one b two) t

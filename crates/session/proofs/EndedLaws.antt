@@ -30,6 +30,7 @@ ended-stays r e (Arguments.answer size bytes cancelled) = rw (e .answered)
 ended-stays r e (Arguments.verdict kind yesNo fascn) = rw (e .not-all-read)
 ended-stays r e (Arguments.field size tag) = refl
 ended-stays r e (Arguments.stamp room) = either (λ (q : Reading). q ≡ r) (eqb (refusalOf (stampConditions room)) 0) refl refl
+ended-stays r e (Arguments.preview kind yesNo fascn room) = either (λ (q : Reading). q ≡ r) (eqb (refusedBy r (Arguments.preview kind yesNo fascn room)) 0) refl refl
 
 pub ended-list : (r : Reading) → Ended r → (ts : List Arguments) → reading r ts ≡ r
 ended-list r e [] = refl
@@ -77,6 +78,7 @@ accepted-sound r i (Arguments.answer size bytes cancelled) e =
 accepted-sound r i (Arguments.verdict kind yesNo fascn) e = i
 accepted-sound r i (Arguments.field size tag) e = i
 accepted-sound r i (Arguments.stamp room) e = i
+accepted-sound r i (Arguments.preview kind yesNo fascn room) e = i
 
 list-sound : (r : Reading) → SoundReading r → (ts : List Arguments) → SoundReading (reading r ts)
 unfolding read

@@ -89,7 +89,7 @@ one-judged o old f xs cancelled n j =
     let six : length (set old 2 a) ≡ checks = length-set old 2 a ∙ j .six in
     record {
       six = length-set (set old 2 a) 3 b ∙ six;
-      small = set-in-range (set old 2 a) 3 b (omega (arith, six)) (list-small (keyRead (o .mode) xs) cancelled) (set-in-range old 2 a (omega (arith, j .six)) (expiry-small (o .date) (expiryRead (o .mode) xs)) (j .small));
+      small = set-in-range (set old 2 a) 3 b (list-small (keyRead (o .mode) xs) cancelled) (set-in-range old 2 a (expiry-small (o .date) (expiryRead (o .mode) xs)) (j .small));
       verdicts = λ kind g. waits-on kind _ (ownFascn (o .mode) (f .step1)) _ (verdictOn kind (f .verdicts)) (outcomeOf old (checkServed kind)) _ (ap (λ (x : Found). verdictOn kind (x .verdicts)) n) (set-other old a b (j .six) (place-of kind) (λ z. placed kind g .not-expiry (sym z)) (λ z. placed kind g .not-list (sym z))) (j .verdicts kind g);
       expiry = set-three old a b (j .six);
       list = set-four old a b (j .six);

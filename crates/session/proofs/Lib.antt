@@ -37,6 +37,8 @@ pub mod GoodEndLaws
 pub mod AnswerLaws
 -- VerdictLaws: the verdict call
 pub mod VerdictLaws
+-- PreviewLaws: the preview
+pub mod PreviewLaws
 -- FieldLaws: the field call
 pub mod FieldLaws
 -- StampLaws: the stamp, and that equal stamps have equal findings
@@ -51,6 +53,8 @@ pub mod CountLaws
 pub mod CorrectionLaws
 -- RunLaws: every call, and every list of calls
 pub mod RunLaws
+-- HistoryLaws: histories with one call more, and without their previews
+pub mod HistoryLaws
 -- PromiseLaws: demand 3
 pub mod PromiseLaws
 -- CallPromiseLaws: the promise as the contracts carry it

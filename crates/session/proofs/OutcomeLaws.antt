@@ -2,7 +2,7 @@
 -- Assumes nothing.
 use mathlib.Core.Path.{_≡_, refl, sym, ap, _∙_}
 use mathlib.Core.Bool.{Bool, true, false, cond}
-use mathlib.Core.List.{List}
+use mathlib.Core.List.{List, [], _∷_}
 use Prim.Native.Nat.{ℕ, zero, suc, _+_, _-_, _<_}
 use native.Mathlib.Omega.{arith}
 use borrow.Author.Tests.{leb-true, eqb-true, eqb-false}
@@ -63,13 +63,16 @@ unfolding verdictOutcome
 verdict-small own yesNo fascn = either Small (eqb yesNo 0) {x = 3} refl (either Small (sameBytes fascn own) {x = 2} {y = 4} refl refl)
 
 -- outcomes stay in range where one that is in range is set
-pub set-in-range : (o : List ℕ) (p v : ℕ) → p < length o → leb v 4 ≡ true → outcomesInRange o ≡ true → outcomesInRange (set o p v) ≡ true
+pub set-in-range : (o : List ℕ) (p v : ℕ) → leb v 4 ≡ true → outcomesInRange o ≡ true → outcomesInRange (set o p v) ≡ true
 unfolding outcomesInRange
-set-in-range o p v h s e = all-of (λ i. leb (getD (set o p v) i 0) 4) checks (λ i l. go i l (eqb i p) refl)
+set-in-range o p v s e = all-of (λ i. leb (getD (set o p v) i 0) 4) checks (λ i l. go o p i (all-at (λ i. leb (getD o i 0) 4) checks e i l))
   where
-    go : (i : ℕ) → i < checks → (b : Bool) → eqb i p ≡ b → leb (getD (set o p v) i 0) 4 ≡ true
-    go i l true q = rw (eqb-true i p q, getD-set-same o p v 0 h) s
-    go i l false q = rw (getD-set-other o p i v 0 (eqb-false i p q)) (all-at (λ i. leb (getD o i 0) 4) checks e i l)
+    go : (o : List ℕ) (p i : ℕ) → leb (getD o i 0) 4 ≡ true → leb (getD (set o p v) i 0) 4 ≡ true
+    go [] p i h = h
+    go (x ∷ o) zero zero h = s
+    go (x ∷ o) zero (suc i) h = h
+    go (x ∷ o) (suc p) zero h = h
+    go (x ∷ o) (suc p) (suc i) h = go o p i h
 
 pub expiry-small : (date expiry : ℕ) → leb (expiryOutcome date expiry) 4 ≡ true
 unfolding expiryOutcome

@@ -5,15 +5,20 @@ use mathlib.Core.Bool.{Bool, true, false, cond}
 use mathlib.Core.List.{List, [], _∷_}
 use Prim.Native.Nat.{ℕ, zero, suc}
 use native.Mathlib.Omega.{arith}
+use borrow.Author.Tests.{eqb-true, eq-eqb}
 use lib.Dec.{eqb}
 use lib.ListN.{length, getD}
-use Rattle.session.specs.Condition.{commandConditions, answerConditions, verdictConditions, stampConditions}
-use Rattle.session.specs.Reading.{hasNumber, Arguments, Reading, begins, nextCommand, commandRefused, answerRefused, verdictRefused, refusedBy, read, refusals}
+use Rattle.session.specs.Condition.{commandConditions, answerConditions, verdictConditions, stampConditions, previewConditions}
+use Rattle.session.specs.Reading.{hasNumber, Arguments, Reading, begins, nextCommand, commandRefused, answerRefused, verdictRefused, previewRefused, refusedBy, read, refusals}
 use Rattle.session.specs.Ranges.{inRange}
-use Rattle.session.specs.Operation.{opened, commandOf, commandBuffer, fieldOf, stampBuffer}
-use Rattle.session.specs.Promise.{Call, Host, callNumber, numbers, History, startHost, finish, argumentsIn, readingOf, stampFor, countFor, Promise}
+use Rattle.session.specs.Finding.{finding, stampOf}
+use Rattle.session.specs.Operation.{opened, commandOf, commandBuffer, verdictOf, fieldOf, stampBuffer, previewRefusal, previewBuffer}
+use Rattle.session.specs.Promise.{Call, argumentsOf, Host, callNumber, numbers, History, startHost, finish, argumentsIn, readingOf, readingWith, stampFor, countFor, previewFor, Promise}
 use Rattle.session.specs.declared.state.Session.{Session}
-use Rattle.common.proofs.ConditionLaws.{not-named}
+use Rattle.common.specs.Lists.{overFront}
+use Rattle.common.specs.Refusal.{refusalOf}
+use Rattle.common.proofs.TestLaws.{by-test}
+use Rattle.common.proofs.ConditionLaws.{none-of-both, not-named}
 use Rattle.session.proofs.Invariant.{session-of, Invariant, HostStandsFor}
 use Rattle.session.proofs.InRangeLaws.{in-range}
 use Rattle.session.proofs.CommandLaws.{command-gives, command-leaves}
@@ -23,6 +28,7 @@ use Rattle.session.proofs.StampLaws.{stamp-is, stamps-iff}
 use Rattle.session.proofs.CountLaws.{answers-step, answers-all}
 use Rattle.session.proofs.BeginLaws.{begins-holds}
 use Rattle.session.proofs.RunLaws.{number-is, stamp-number, on-list, numbers-are}
+use Rattle.session.proofs.HistoryLaws.{with-call, call-finish, previews-out}
 
 -- the host of a history has come to its reading
 pub reached : (h : History) → HostStandsFor (finish h) (readingOf h)
@@ -36,12 +42,13 @@ all-numbers h = numbers-are (h .calls) (begins (h .opening)) (h .object) (begins
 -- ---- number 4 is none of the reading's
 
 not-four : (r : Reading) (t : Arguments) → refusedBy r t ≡ 4 → ⊥
-unfolding commandRefused answerRefused verdictRefused
+unfolding commandRefused answerRefused verdictRefused previewRefused
 not-four r (Arguments.command room) e = not-named 4 (commandConditions (r .progress .step) (r .progress .cause) (r .progress .outstanding) room (length (nextCommand r))) refl e
 not-four r (Arguments.answer size bytes cancelled) e = not-named 4 (answerConditions (r .progress .outstanding) size (length bytes)) refl e
 not-four r (Arguments.verdict kind yesNo fascn) e = not-named 4 (verdictConditions (r .opening .mode) (r .progress .step) (r .outcomes) kind yesNo fascn) refl e
 not-four r (Arguments.field size tag) e = let z : _≡_ {A = ℕ} 0 4 = e in omega arith
 not-four r (Arguments.stamp room) e = not-named 4 (stampConditions room) refl e
+not-four r (Arguments.preview kind yesNo fascn room) e = not-named 4 (previewConditions (r .opening .mode) (r .progress .step) (r .outcomes) kind yesNo fascn room) refl e
 
 never-four : (ts : List Arguments) (r : Reading) (i : ℕ) → getD (refusals r ts) i 0 ≡ 4 → ⊥
 never-four [] r i e = let z : _≡_ {A = ℕ} 0 4 = e in omega arith
@@ -65,6 +72,30 @@ stamp-leaves : (r : Reading) (m out : List ℕ) → Invariant r m → stampBuffe
 unfolding stampBuffer
 stamp-leaves r m out i = rw (stamp-number r m (length out) i, stamp-is r m i)
 
+-- ---- the calls made next, after a history
+
+-- the number is the reading's
+pub number-next : (h : History) (c : Call) → callNumber (finish h) c ≡ refusedBy (readingOf h) (argumentsOf c)
+number-next h c = let a = reached h in ap (λ (x : Host). callNumber x c) (a .same) ∙ number-is (readingOf h) (a .object) c (a .holds)
+
+stamp-next : (h : History) (out : List ℕ) → stampBuffer (finish h .session) out ≡ stampFor (readingOf h) out
+stamp-next h out = let a = reached h in ap (λ (x : Host). stampBuffer (x .session) out) (a .same) ∙ stamp-leaves (readingOf h) (a .object) out (a .holds)
+
+-- a preview that the reading does not refuse has room for the stamp
+preview-room : (r : Reading) (kind yesNo : ℕ) (fascn : List ℕ) (room : ℕ) → previewRefused r kind yesNo fascn room ≡ 0 → refusalOf (stampConditions room) ≡ 0
+unfolding previewRefused
+preview-room r kind yesNo fascn room e = none-of-both (verdictConditions (r .opening .mode) (r .progress .step) (r .outcomes) kind yesNo fascn) (stampConditions room) refl e .1
+
+preview-next : (h : History) (kind yesNo : ℕ) (fascn out : List ℕ) → previewBuffer (finish h .session) kind yesNo fascn out ≡ previewFor h kind yesNo fascn out
+unfolding previewBuffer
+preview-next h kind yesNo fascn out =
+    let c = Call.verdict kind yesNo fascn in
+    let v = with-call h c tt in
+    let stamp : stampBuffer (verdictOf (finish h .session) kind yesNo fascn .1) out ≡ stampFor (readingWith h c) out = ap (λ (x : Host). stampBuffer (x .session) out) (sym (call-finish h c tt)) ∙ stamp-next v out in
+    rw (number-next h (Call.preview kind yesNo fascn out))
+    (by-test (λ (x y : List ℕ). x ≡ y) _ _ _ _ (eqb (refusedBy (readingOf h) (Arguments.preview kind yesNo fascn (length out))) 0)
+    (λ e. stamp ∙ ap (λ (b : Bool). cond b (overFront (stampOf (finding (readingWith h c))) out) out) (eq-eqb _ 0 (preview-room (readingOf h) kind yesNo fascn (length out) (eqb-true _ 0 e)))) (λ _. refl))
+
 -- ---- the promise
 
 pub promise : (h : History) → Promise h
@@ -75,13 +106,16 @@ promise h =
     let i = a .holds in
     let s : finish h .session ≡ session-of r = ap (λ (x : Host). x .session) (a .same) in
     record {
-      stamp-number = λ out. ap (λ (x : Host). callNumber x (Call.stamp out)) (a .same) ∙ number-is r m (Call.stamp out) i;
-      stamp-bytes = λ out. ap (λ (x : Session). stampBuffer x out) s ∙ stamp-leaves r m out i;
-      command-number = λ out. ap (λ (x : Host). callNumber x (Call.command out)) (a .same) ∙ number-is r m (Call.command out) i;
+      stamp-number = λ out. number-next h (Call.stamp out);
+      stamp-bytes = stamp-next h;
+      command-number = λ out. number-next h (Call.command out);
       command-count = λ out. ap (λ (x : Session). commandOf x (length out) .1) s ∙ command-count r m (length out) i;
       command-bytes = λ out. ap (λ (x : Session). commandBuffer x out) s ∙ command-leaves r m out i;
       field-value = λ tag. ap (λ (x : Host). fieldOf (x .session) (x .object) tag) (a .same) ∙ field-is r m tag i;
       field-empty = λ object tag e. ap (λ (x : Session). fieldOf x object tag) s ∙ field-none r m object tag i e;
+      preview-number = λ kind yesNo fascn out. number-next h (Call.preview kind yesNo fascn out);
+      preview-bytes = preview-next h;
+      previews-out = previews-out h;
       refused = all-numbers h;
       never-four = λ n e. never-four (argumentsIn h) (begins (h .opening)) n (ap (λ (l : List ℕ). getD l n 0) (sym (all-numbers h)) ∙ e);
       in-range = ap inRange s ∙ in-range r m i;

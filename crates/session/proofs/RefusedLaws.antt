@@ -7,7 +7,7 @@ use Prim.Native.Nat.{ℕ}
 use borrow.Author.Tests.{ne-eqb}
 use lib.ListN.{length}
 use Rattle.session.specs.Ranges.{rangedValues, valuesInRange, inRange}
-use Rattle.session.specs.Operation.{dead, openRefusal, openOf, commandRefusal, commandOf, commandBuffer, answerRefusal, answerOf, answerBuffer, verdictRefusal, verdictOf, stampRefusal, stampAnswer, stampBuffer}
+use Rattle.session.specs.Operation.{dead, openRefusal, openOf, commandRefusal, commandOf, commandBuffer, answerRefusal, answerOf, answerBuffer, verdictRefusal, verdictOf, stampRefusal, stampAnswer, stampBuffer, previewRefusal, previewBuffer}
 use Rattle.session.specs.declared.state.Session.{Session}
 
 -- a refused opening gives the dead session
@@ -34,6 +34,10 @@ pub stamp-unchanged : (s : Session) (out : List ℕ) → let k = stampRefusal s 
 unfolding stampAnswer stampBuffer
 stamp-unchanged s out h = (refl, rw (ne-eqb (stampRefusal s (length out)) 0 h))
 
+pub preview-unchanged : (s : Session) (kind yesNo : ℕ) (fascn out : List ℕ) → (previewRefusal s kind yesNo fascn (length out) ≡ 0 → ⊥) → previewBuffer s kind yesNo fascn out ≡ out
+unfolding previewBuffer
+preview-unchanged s kind yesNo fascn out h = rw (ne-eqb (previewRefusal s kind yesNo fascn (length out)) 0 h)
+
 -- ---- the dead session
 
 -- every call on it is refused by 4
@@ -52,3 +56,7 @@ verdict-dead kind yesNo fascn = refl
 pub stamp-dead : (room : ℕ) → stampRefusal dead room ≡ 4
 unfolding stampRefusal inRange valuesInRange rangedValues
 stamp-dead room = refl
+
+pub preview-dead : (kind yesNo : ℕ) (fascn : List ℕ) (room : ℕ) → previewRefusal dead kind yesNo fascn room ≡ 4
+unfolding previewRefusal inRange valuesInRange rangedValues
+preview-dead kind yesNo fascn room = refl

@@ -10,8 +10,8 @@ use lib.ListN.{length}
 use Rattle.common.specs.Refusal.{refusalOf}
 use Rattle.session.specs.Tables.{dataOf, statusBytes}
 use Rattle.session.specs.Condition.{stampConditions}
-use Rattle.session.specs.Reading.{hasNumber, Arguments, Reading, commandRefused, answerRefused, answerTaken, verdictRefused, verdictTaken, refusedBy, read, reading, refusals}
-use Rattle.session.specs.Operation.{commandOf, answerTakenSession, answerTakenBuffer, answerOf, answerBuffer, verdictRefusal, verdictOf, stampRefusal, stampAnswer}
+use Rattle.session.specs.Reading.{hasNumber, Arguments, Reading, commandRefused, answerRefused, answerTaken, verdictRefused, verdictTaken, previewRefused, refusedBy, read, reading, refusals}
+use Rattle.session.specs.Operation.{commandOf, answerTakenSession, answerTakenBuffer, answerOf, answerBuffer, verdictRefusal, verdictOf, stampRefusal, stampAnswer, previewRefusal}
 use Rattle.session.specs.Promise.{Call, argumentsOf, Host, callNumber, hostAfter, runCalls, numbers, LentNow, Lent}
 use Rattle.session.specs.declared.state.Session.{Session}
 use Rattle.common.proofs.TestLaws.{by-test, either}
@@ -55,6 +55,10 @@ pub stamp-number : (r : Reading) (m : List ℕ) (room : ℕ) → Invariant r m �
 unfolding stampRefusal
 stamp-number r m room i = rw (in-range r m i)
 
+preview-number : (r : Reading) (m : List ℕ) (kind yesNo : ℕ) (fascn : List ℕ) (room : ℕ) → Invariant r m → previewRefusal (session-of r) kind yesNo fascn room ≡ previewRefused r kind yesNo fascn room
+unfolding previewRefusal previewRefused
+preview-number r m kind yesNo fascn room i = rw (in-range r m i)
+
 pub number-is : (r : Reading) (m : List ℕ) (c : Call) → Invariant r m → callNumber (host-of r m) c ≡ refusedBy r (argumentsOf c)
 unfolding stampAnswer
 number-is r m (Call.command out) i = command-refused r m (length out) i
@@ -62,6 +66,7 @@ number-is r m (Call.answer object bytes cancelled) i = answer-refusal-is r m obj
 number-is r m (Call.verdict kind yesNo fascn) i = verdict-refused r m kind yesNo fascn i
 number-is r m (Call.field object tag) i = refl
 number-is r m (Call.stamp out) i = stamp-number r m (length out) i
+number-is r m (Call.preview kind yesNo fascn out) i = preview-number r m kind yesNo fascn (length out) i
 
 -- ---- what a call leaves
 
@@ -91,6 +96,7 @@ on-call r m (Call.verdict kind yesNo fascn) i l =
     (by-test (λ (x : ℕ × Session) (q : Reading). StandsFor (x .1) m q) _ _ _ _ (eqb (verdictRefused r kind yesNo fascn) 0) (λ e. stays _ m (on-verdict r m kind yesNo fascn i (eqb-true _ 0 e))) (λ _. stays r m i))
 on-call r m (Call.field object tag) i l = stays r m i
 on-call r m (Call.stamp out) i l = either (HostStandsFor (host-of r m)) (eqb (refusedBy r (Arguments.stamp (length out))) 0) (stays r m i) (stays r m i)
+on-call r m (Call.preview kind yesNo fascn out) i l = either (HostStandsFor (host-of r m)) (eqb (refusedBy r (Arguments.preview kind yesNo fascn (length out))) 0) (stays r m i) (stays r m i)
 
 -- ---- every list
 

@@ -64,7 +64,7 @@ module _ (a : Opening) (o : List ℕ) (f : Found) (kind yesNo : ℕ) (fascn : Li
   judged-on =
       record {
         six = length-set o (place-of kind) outcome ∙ j .six;
-        small = set-in-range o (place-of kind) outcome inside (verdict-small (ownFascn (a .mode) (f .step1)) yesNo fascn) (j .small);
+        small = set-in-range o (place-of kind) outcome (verdict-small (ownFascn (a .mode) (f .step1)) yesNo fascn) (j .small);
         verdicts = λ k g. verdict-on k g (eqb kind k) refl;
         expiry = expiry-stays (a .mode) (a .date) o outcomes (f .step1) (getD-set-other o (place-of kind) 2 outcome 0 (placed kind good .not-expiry)) (j .expiry);
         list = list-stays (a .mode) o outcomes (f .step1) (getD-set-other o (place-of kind) 3 outcome 0 (placed kind good .not-list)) (j .list);

@@ -1,8 +1,8 @@
--- What each call may decline (document 01): the conditions of each call with their numbers, in the order shown. Number 4, "session dead or out of range", stands
+-- What each call may decline (document 01; document 02, request 6): the conditions of each call with their numbers, in the order shown. Number 4, "session dead or out of range", stands
 -- before them where a session is asked, and is not among them.
 -- Assumes nothing.
 use mathlib.Core.Bool.{Bool, not, _&&_, _||_}
-use mathlib.Core.List.{List, [], _∷_}
+use mathlib.Core.List.{List, [], _∷_, _++_}
 use Prim.Native.Nat.{ℕ}
 use lib.Dec.{eqb, ltb, leb}
 use Rattle.card.specs.Fascn.{unpackOf}
@@ -52,3 +52,7 @@ fieldRefused mode step size tag = not (eqb size objectSize) || (eqb (stepOfTag t
 -- Stamp: 6 buffer under 45 bytes.
 abbrev pub stampConditions : ℕ → List (ℕ × Bool)
 stampConditions room = (6, ltb room stampSize) ∷ []
+
+-- Preview (document 02, request 6): "those of the verdict call and then number 6".
+abbrev pub previewConditions : ℕ → ℕ → List ℕ → ℕ → ℕ → List ℕ → ℕ → List (ℕ × Bool)
+previewConditions mode step outcomes kind yesNo fascn room = verdictConditions mode step outcomes kind yesNo fascn ++ stampConditions room

@@ -14,7 +14,7 @@ use Rattle.card.specs.declared.object.Part.{Part}
 use Rattle.card.specs.declared.command.Status.{Status}
 use Rattle.card.specs.declared.command.Status.the-variants.{Done, More, Again, Other}
 use Rattle.session.specs.Tables.{checks, checkServed, withOutcome, neededOutcomes, verdictOutcome, causeOf, standingOf, kindAt, stepAfter, baseOf, capacity, stepOfTag, NextCommand, commandBytes, dataOf, statusBytes, ruleCause, statusShown, fascnRead, expiryRead, judgedOutcomes, joinedCause, headOf, stampLayout}
-use Rattle.session.specs.Condition.{openConditions, commandConditions, answerConditions, verdictConditions, fieldRefused, stampConditions}
+use Rattle.session.specs.Condition.{openConditions, commandConditions, answerConditions, verdictConditions, fieldRefused, stampConditions, previewConditions}
 use Rattle.session.specs.Ranges.{outOfRange}
 use Rattle.session.specs.declared.state.SessionProgress.{SessionProgress}
 use Rattle.session.specs.declared.state.Card.{Card}
@@ -272,3 +272,15 @@ stampAnswer s room = (stampRefusal s room, s)
 
 unfoldable pub stampBuffer : Session → List ℕ → List ℕ
 stampBuffer s out = cond (eqb (stampRefusal s (length out)) 0) (overFront (stampIn s) out) out
+
+-- ---- preview (document 02, request 6)
+
+unfoldable pub previewRefusal : Session → ℕ → ℕ → List ℕ → ℕ → ℕ
+previewRefusal s kind yesNo fascn room =
+    refusalOf ((4, outOfRange s) ∷ previewConditions (s .opening .mode) (s .progress .step) (s .outcomes) kind yesNo fascn room)
+
+-- The lent buffer then: as "a verdict call on a copy of the session, followed by a stamp call", leaves it. No session is handed back. That the number is that of the first of
+-- these two calls that is refused is `preview-number-of-two` (proofs/PreviewLaws.antt).
+unfoldable pub previewBuffer : Session → ℕ → ℕ → List ℕ → List ℕ → List ℕ
+previewBuffer s kind yesNo fascn out =
+    cond (eqb (previewRefusal s kind yesNo fascn (length out)) 0) (stampBuffer (verdictOf s kind yesNo fascn .1) out) out

@@ -1,8 +1,8 @@
--- Demand 3. A host makes any list of calls, one after another, from a session freshly opened; what then holds of the stamp, command and field call made next, of every
--- call of the list, and of two such lists. The run goes by the definitions that the contracts cite; the reading is fed the calls' arguments, and never a result.
+-- Demand 3, with requests 1 and 6 of document 02. A host makes any list of calls, one after another, from a session freshly opened; what then holds of the stamp, command,
+-- field and preview call made next, of every call of the list, of the list without its previews, and of two such lists. The run goes by the definitions that the contracts cite; the reading is fed the calls' arguments, and never a result.
 -- Assumes nothing.
 use mathlib.Core.Path.{_≡_}
-use mathlib.Core.Bool.{Bool, true, cond, not, _&&_}
+use mathlib.Core.Bool.{Bool, true, false, cond, not, _&&_}
 use mathlib.Core.Logic.{_↔_}
 use mathlib.Core.List.{List, [], _∷_, _++_, map}
 use Prim.Native.Nat.{ℕ, _+_, _≤_, _<_}
@@ -13,10 +13,11 @@ use Rattle.card.specs.Date.{realDate}
 use Rattle.card.specs.Command.{aidRefused}
 use Rattle.session.specs.Tables.{modeInRange, standsGranted, answersMost, stampSize}
 use Rattle.session.specs.Ranges.{inRange}
-use Rattle.session.specs.Operation.{replyNumber, opened, commandOf, commandBuffer, answerRefusal, answerOf, answerBuffer, verdictOf, fieldOf, stampAnswer, stampBuffer}
+use Rattle.session.specs.Operation.{replyNumber, opened, commandOf, commandBuffer, answerRefusal, answerOf, answerBuffer, verdictOf, fieldOf, stampAnswer, stampBuffer, previewRefusal, previewBuffer}
 use Rattle.session.specs.Reading.{Opening, Arguments, Reading, begins, nextCommand, hasNumber, refusedBy, reading, refusals, fieldIn, fieldFor, answersIn, answers}
 use Rattle.session.specs.Finding.{finding, standing, stampOf, Granted}
 use Rattle.session.specs.declared.state.Session.{Session}
+use Rattle.session.specs.declared.state.Reply.{Reply}
 use Rattle.session.specs.declared.state.Answered.{Answered}
 use Rattle.session.specs.declared.state.Commanded.{Commanded}
 
@@ -29,6 +30,7 @@ pub data Call : Type 0 where
   verdict : (kind yesNo : ℕ) (fascn : List ℕ) → Call
   field : (object : List ℕ) (tag : ℕ) → Call
   stamp : (out : List ℕ) → Call
+  preview : (kind yesNo : ℕ) (fascn out : List ℕ) → Call
 
 -- What the reading is fed of it.
 abbrev pub argumentsOf : Call → Arguments
@@ -37,6 +39,7 @@ argumentsOf (Call.answer object bytes cancelled) = Arguments.answer (length obje
 argumentsOf (Call.verdict kind yesNo fascn) = Arguments.verdict kind yesNo fascn
 argumentsOf (Call.field object tag) = Arguments.field (length object) tag
 argumentsOf (Call.stamp out) = Arguments.stamp (length out)
+argumentsOf (Call.preview kind yesNo fascn out) = Arguments.preview kind yesNo fascn (length out)
 
 -- The session and the object buffer as the last call left them.
 pub record Host : Type 0 where
@@ -50,8 +53,9 @@ callNumber h (Call.answer object bytes cancelled) = answerOf (h .session) object
 callNumber h (Call.verdict kind yesNo fascn) = verdictOf (h .session) kind yesNo fascn .0
 callNumber h (Call.field object tag) = 0
 callNumber h (Call.stamp out) = stampAnswer (h .session) (length out) .0
+callNumber h (Call.preview kind yesNo fascn out) = previewRefusal (h .session) kind yesNo fascn (length out)
 
--- "Each gets the session as the call before left it"; "only the list's answer calls write" the object buffer.
+-- "Each gets the session as the call before left it"; "only the list's answer calls write" the object buffer. A preview "hands back no session": the host keeps the one it has.
 abbrev pub hostAfter : Host → Call → Host
 hostAfter h (Call.command out) = record { session = commandOf (h .session) (length out) .2; object = h .object }
 hostAfter h (Call.answer object bytes cancelled) =
@@ -62,6 +66,7 @@ hostAfter h (Call.answer object bytes cancelled) =
 hostAfter h (Call.verdict kind yesNo fascn) = record { session = verdictOf (h .session) kind yesNo fascn .1; object = h .object }
 hostAfter h (Call.field object tag) = h
 hostAfter h (Call.stamp out) = record { session = stampAnswer (h .session) (length out) .1; object = h .object }
+hostAfter h (Call.preview kind yesNo fascn out) = h
 
 abbrev pub runCalls : Host → List Call → Host
 runCalls h [] = h
@@ -84,6 +89,7 @@ LentNow h (Call.answer object bytes cancelled) = (callNumber h (Call.answer obje
 LentNow h (Call.verdict kind yesNo fascn) = Unit
 LentNow h (Call.field object tag) = Unit
 LentNow h (Call.stamp out) = Unit
+LentNow h (Call.preview kind yesNo fascn out) = Unit
 
 abbrev pub Lent : Host → List Call → Type 0
 Lent h [] = Unit
@@ -117,6 +123,66 @@ argumentsIn h = map argumentsOf (h .calls)
 abbrev pub readingOf : History → Reading
 readingOf h = reading (begins (h .opening)) (argumentsIn h)
 
+-- The reading of the list with a call at its end.
+abbrev pub readingWith : History → Call → Reading
+readingWith h c = reading (begins (h .opening)) (map argumentsOf (h .calls ++ (c ∷ [])))
+
+-- ---- the list without its previews
+
+abbrev pub isPreview : Call → Bool
+isPreview (Call.command out) = false
+isPreview (Call.answer object bytes cancelled) = false
+isPreview (Call.verdict kind yesNo fascn) = false
+isPreview (Call.field object tag) = false
+isPreview (Call.stamp out) = false
+isPreview (Call.preview kind yesNo fascn out) = true
+
+abbrev pub withoutPreviews : List Call → List Call
+withoutPreviews [] = []
+withoutPreviews (c ∷ cs) = let later = withoutPreviews cs in cond (isPreview c) later (c ∷ later)
+
+-- What a call gives beside the session: its number (of a field call 0), the count of a command call, and the bytes that are then in the buffer that it writes; of a field call
+-- the bytes of the part.
+pub record Result : Type 0 where
+  pub number : ℕ
+  pub count : ℕ
+  pub bytes : List ℕ
+
+abbrev pub countOf : Host → Call → ℕ
+countOf h (Call.command out) = commandOf (h .session) (length out) .1
+countOf h (Call.answer object bytes cancelled) = 0
+countOf h (Call.verdict kind yesNo fascn) = 0
+countOf h (Call.field object tag) = 0
+countOf h (Call.stamp out) = 0
+countOf h (Call.preview kind yesNo fascn out) = 0
+
+abbrev pub bytesOf : Host → Call → List ℕ
+bytesOf h (Call.command out) = commandBuffer (h .session) out
+bytesOf h (Call.answer object bytes cancelled) = answerBuffer (h .session) object bytes
+bytesOf h (Call.verdict kind yesNo fascn) = []
+bytesOf h (Call.field object tag) = fieldOf (h .session) object tag
+bytesOf h (Call.stamp out) = stampBuffer (h .session) out
+bytesOf h (Call.preview kind yesNo fascn out) = previewBuffer (h .session) kind yesNo fascn out
+
+abbrev pub resultOf : Host → Call → Result
+resultOf h c = record { number = callNumber h c; count = countOf h c; bytes = bytesOf h c }
+
+-- The results of the calls of a list that are no previews.
+abbrev pub otherResults : Host → List Call → List Result
+otherResults h [] = []
+otherResults h (c ∷ cs) = let later = otherResults (hostAfter h c) cs in cond (isPreview c) later (resultOf h c ∷ later)
+
+-- "It may stand anywhere in a list without altering later stamps": the list without its previews is a history too, each of its calls gives what it gave, and it ends with the same
+-- session, buffer and reading, so that every call made next gives the same too.
+pub record PreviewsOut (h : History) : Type 0 where
+  pub history : History
+  pub opening : history .opening ≡ h .opening
+  pub buffer : history .object ≡ h .object
+  pub calls : history .calls ≡ withoutPreviews (h .calls)
+  pub results : otherResults (startHost h) (h .calls) ≡ otherResults (startHost history) (history .calls)
+  pub host : finish h ≡ finish history
+  pub reading : readingOf h ≡ readingOf history
+
 -- ---- the promise
 
 -- What a stamp call leaves in its buffer, and what a command call gives and leaves, by the reading.
@@ -128,6 +194,12 @@ countFor r room = cond (eqb (refusedBy r (Arguments.command room)) 0) (length (n
 
 abbrev pub commandFor : Reading → List ℕ → List ℕ
 commandFor r out = cond (eqb (refusedBy r (Arguments.command (length out))) 0) (overFront (nextCommand r) out) out
+
+-- What a preview leaves: the stamp of the finding of the list with that verdict call at its end.
+abbrev pub previewFor : History → ℕ → ℕ → List ℕ → List ℕ → List ℕ
+previewFor h kind yesNo fascn out =
+    cond (eqb (refusedBy (readingOf h) (Arguments.preview kind yesNo fascn (length out))) 0)
+    (overFront (stampOf (finding (readingWith h (Call.verdict kind yesNo fascn)))) out) out
 
 pub record Promise (h : History) : Type 0 where
   -- a: a stamp call made next is refused by the reading's number, or writes the 45 bytes of the finding and leaves the rest
@@ -141,6 +213,12 @@ pub record Promise (h : History) : Type 0 where
   pub field-value : (tag : ℕ) → fieldOf (finish h .session) (finish h .object) tag ≡ fieldIn (readingOf h) tag
   -- where the reading has none, or the buffer lent has another size, the part is empty, whatever is in it
   pub field-empty : (object : List ℕ) (tag : ℕ) → fieldFor (readingOf h) (length object) tag ≡ [] → fieldOf (finish h .session) object tag ≡ []
+  -- a preview made next is refused by the reading's number, or writes the 45 bytes of the finding of the list with that verdict call at its end and leaves the rest
+  pub preview-number : (kind yesNo : ℕ) (fascn out : List ℕ)
+      → callNumber (finish h) (Call.preview kind yesNo fascn out) ≡ refusedBy (readingOf h) (Arguments.preview kind yesNo fascn (length out))
+  pub preview-bytes : (kind yesNo : ℕ) (fascn out : List ℕ) → previewBuffer (finish h .session) kind yesNo fascn out ≡ previewFor h kind yesNo fascn out
+  -- taking the previews out alters nothing else
+  pub previews-out : PreviewsOut h
   -- d: each call of the list that has a number was refused where the reading says so, by that number; refusal 4 fits none
   pub refused : numbers (startHost h) (h .calls) ≡ refusals (begins (h .opening)) (argumentsIn h)
   pub never-four : (i : ℕ) → getD (numbers (startHost h) (h .calls)) i 0 ≡ 4 → ⊥
@@ -221,3 +299,15 @@ pub record StampPromised (h : History) (before left : List ℕ) (r : Answered) :
 
 abbrev pub StampPromise : Session → List ℕ → List ℕ → Answered → Type 0
 StampPromise s before left r = (h : History) → s ≡ finish h .session → StampPromised h before left r
+
+-- The same of a preview, of the list with that verdict call at its end. The session stays: the history with the preview at its end is one that reaches it.
+pub record PreviewPromised (h : History) (s : Session) (kind yesNo : ℕ) (fascn before left : List ℕ) (r : Reply) : Type 0 where
+  pub number : replyNumber r ≡ refusedBy (readingOf h) (Arguments.preview kind yesNo fascn (length before))
+  pub bytes : left ≡ previewFor h kind yesNo fascn before
+  pub granted : replyNumber r ≡ 0 → (getD left 1 0 ≡ standsGranted) ↔ Granted (readingWith h (Call.verdict kind yesNo fascn))
+  pub apart : replyNumber r ≡ 0
+      → (u : History) → (take stampSize left ≡ stampOf (finding (readingOf u))) ↔ (finding (readingWith h (Call.verdict kind yesNo fascn)) ≡ finding (readingOf u))
+  pub extended : ExtendedBy h (Call.preview kind yesNo fascn before) s (finish h .object)
+
+abbrev pub PreviewPromise : Session → ℕ → ℕ → List ℕ → List ℕ → List ℕ → Reply → Type 0
+PreviewPromise s kind yesNo fascn before left r = (h : History) → s ≡ finish h .session → PreviewPromised h s kind yesNo fascn before left r

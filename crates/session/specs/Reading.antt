@@ -1,4 +1,4 @@
--- Document 01's reading, with request 1 of document 02, of an opening and a list of calls: "fed the opening's mode, date and AID and each call's arguments (not the session, and only the length of the
+-- Document 01's reading, with requests 1 and 6 of document 02, of an opening and a list of calls: "fed the opening's mode, date and AID and each call's arguments (not the session, and only the length of the
 -- object buffer), never a result". It knows lists of bytes, and no session, no buffer and no place in one.
 -- Assumes nothing.
 use mathlib.Core.Bool.{Bool, true, false, cond, _&&_}
@@ -14,7 +14,7 @@ use Rattle.card.specs.Command.{statusOf}
 use Rattle.card.specs.declared.command.Status.{Status}
 use Rattle.card.specs.declared.command.Status.the-variants.{Done, More, Again, Other}
 use Rattle.session.specs.Tables.{checkServed, neededOutcomes, withOutcome, verdictOutcome, judgedOutcomes, kindAt, stepAfter, objectSize, capacity, stepOfTag, NextCommand, commandBytes, dataOf, statusBytes, ruleCause, statusShown, fascnRead, joinedCause}
-use Rattle.session.specs.Condition.{commandConditions, answerConditions, verdictConditions, stampConditions}
+use Rattle.session.specs.Condition.{commandConditions, answerConditions, verdictConditions, stampConditions, previewConditions}
 
 -- ---- what the reading is fed
 
@@ -31,6 +31,7 @@ pub data Arguments : Type 0 where
   verdict : (kind yesNo : ℕ) (fascn : List ℕ) → Arguments
   field : (size tag : ℕ) → Arguments
   stamp : (room : ℕ) → Arguments
+  preview : (kind yesNo : ℕ) (fascn : List ℕ) (room : ℕ) → Arguments
 
 -- ---- what is read
 
@@ -182,6 +183,12 @@ verdictTaken r kind yesNo fascn =
       found = record { step1 = r .found .step1; step2 = r .found .step2; verdicts = record { kind = kind; yesNo = yesNo; fascn = fascn } ∷ r .found .verdicts };
     }
 
+-- ---- a preview
+
+unfoldable pub previewRefused : Reading → ℕ → ℕ → List ℕ → ℕ → ℕ
+previewRefused r kind yesNo fascn room =
+    refusalOf (previewConditions (r .opening .mode) (r .progress .step) (r .outcomes) kind yesNo fascn room)
+
 -- ---- every call
 
 -- Every call has a number but the field call: "the empty part, no number".
@@ -191,6 +198,7 @@ hasNumber (Arguments.answer size bytes cancelled) = true
 hasNumber (Arguments.verdict kind yesNo fascn) = true
 hasNumber (Arguments.field size tag) = false
 hasNumber (Arguments.stamp room) = true
+hasNumber (Arguments.preview kind yesNo fascn room) = true
 
 -- The number that refuses a call, by its arguments and the reading; 0 where none does, and for a field call, of which it is not asked.
 abbrev pub refusedBy : Reading → Arguments → ℕ
@@ -199,14 +207,16 @@ refusedBy r (Arguments.answer size bytes cancelled) = answerRefused r size (leng
 refusedBy r (Arguments.verdict kind yesNo fascn) = verdictRefused r kind yesNo fascn
 refusedBy r (Arguments.field size tag) = 0
 refusedBy r (Arguments.stamp room) = refusalOf (stampConditions room)
+refusedBy r (Arguments.preview kind yesNo fascn room) = previewRefused r kind yesNo fascn room
 
--- What a call that is accepted makes of the reading. "Field and stamp calls change nothing."
+-- What a call that is accepted makes of the reading. "Field and stamp calls change nothing", and a preview "may stand anywhere in a list without altering later stamps".
 abbrev pub accepted : Reading → Arguments → Reading
 accepted r (Arguments.command room) = withProgress r (sending (r .progress))
 accepted r (Arguments.answer size bytes cancelled) = answerTaken r (dataOf bytes) (statusBytes bytes) cancelled
 accepted r (Arguments.verdict kind yesNo fascn) = verdictTaken r kind yesNo fascn
 accepted r (Arguments.field size tag) = r
 accepted r (Arguments.stamp room) = r
+accepted r (Arguments.preview kind yesNo fascn room) = r
 
 -- "A call that a condition below fits is refused and changes nothing."
 unfoldable pub read : Reading → Arguments → Reading
@@ -253,6 +263,7 @@ isAnswer (Arguments.answer size bytes cancelled) = true
 isAnswer (Arguments.verdict kind yesNo fascn) = false
 isAnswer (Arguments.field size tag) = false
 isAnswer (Arguments.stamp room) = false
+isAnswer (Arguments.preview kind yesNo fascn room) = false
 
 -- An answer is taken by this call.
 abbrev pub takes : Reading → Arguments → Bool

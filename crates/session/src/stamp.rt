@@ -17,7 +17,9 @@ ghost use mathlib.Core.Path.{_≡_};
 ghost use Prim.Native.Nat.{_≤_};
 ghost use lib.ListN.{length};
 ghost use Rattle.common.specs.Lists.{overFront};
+ghost use Rattle.common.specs.Refusal.{refusalOf};
 ghost use Rattle.session.specs.Tables.{statusShown, fourBytes, stampSize};
+ghost use Rattle.session.specs.Condition.{stampConditions};
 ghost use Rattle.session.specs.Operation.{replyNumber, given, stampRefusal, stampHead, stampIn, stampAnswer, stampBuffer};
 ghost use Rattle.session.specs.Promise.{StampPromise};
 
@@ -40,6 +42,16 @@ fn status_shown(cause: u8, sw: u8) -> u8
     if cause == STATUS_CAUSE { sw } else { 0 }
 }
 
+// Whether a buffer of so many bytes has room for the stamp: 6 where it has not.
+pub(crate) fn room_refusal(room: usize) -> Reply
+    ensures { λ r. ⌜ replyNumber r ≡ refusalOf (stampConditions room) ⌝ }
+{
+    if room < STAMP {
+        return Reply::ShortBuffer;
+    }
+    Reply::Accepted
+}
+
 impl Session {
     fn stamp_refusal(self, room: usize) -> Reply
         ensures { λ r. ⌜ replyNumber r ≡ stampRefusal self room ⌝ }
@@ -47,10 +59,7 @@ impl Session {
         if self.values().out_of_range() {
             return Reply::OutOfRange;
         }
-        if room < STAMP {
-            return Reply::ShortBuffer;
-        }
-        Reply::Accepted
+        room_refusal(room)
     }
 
     // Mode, standing, cause, status word and step.
@@ -67,7 +76,7 @@ impl Session {
         [mode, standing, cause, sw1, sw2, p.step]
     }
 
-    fn write_stamp(self, out: &mut [u8])
+    pub(crate) fn write_stamp(self, out: &mut [u8])
         requires { ⌜ stampSize ≤ length (now out) ⌝ }
         ensures { λ r. ⌜ now (out .exit) ≡ overFront (stampIn self) (now (out .entry)) ⌝ }
     {

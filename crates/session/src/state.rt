@@ -66,23 +66,23 @@ pub enum Reply {
     OutOfRange,
     // command: nothing to send, that is step 3, a cause of 16 to 22, or a command outstanding; answer: no command outstanding
     OutOfTurn,
-    // command, stamp: buffer too short
+    // command, stamp, preview: buffer too short
     ShortBuffer,
     // answer: object buffer not 8,192 bytes
     WrongObjectBuffer,
     // answer: under 2 or over 258 bytes
     WrongAnswerLength,
-    // verdict: step not 3
+    // verdict, preview: step not 3
     NotAllRead,
-    // verdict: kind not 1 to 4
+    // verdict, preview: kind not 1 to 4
     UnknownKind,
-    // verdict: neither 0 nor 1
+    // verdict, preview: neither 0 nor 1
     UnknownVerdict,
-    // verdict: not 25 bytes, or ill-formed
+    // verdict, preview: not 25 bytes, or ill-formed
     WrongFascn,
-    // verdict: the mode does not need it
+    // verdict, preview: the mode does not need it
     NotNeeded,
-    // verdict: of a kind that was given already
+    // verdict, preview: of a kind that was given already
     AlreadyGiven,
 }
 

@@ -28,7 +28,7 @@ fn verdict_outcome(own: &[u8], yes: u8, fascn: &[u8]) -> u8
 }
 
 impl Session {
-    fn verdict_refusal(self, kind: u8, yes: u8, fascn: &[u8]) -> Reply
+    pub(crate) fn verdict_refusal(self, kind: u8, yes: u8, fascn: &[u8]) -> Reply
         ensures { λ r. ⌜ replyNumber r ≡ verdictRefusal self kind yes (now (fascn .entry)) ⌝ }
     {
         if self.values().out_of_range() {
@@ -60,7 +60,7 @@ impl Session {
     }
 
     // The outcome of the verdict's check is set.
-    fn take_verdict(self, kind: u8, yes: u8, fascn: &[u8]) -> Session
+    pub(crate) fn take_verdict(self, kind: u8, yes: u8, fascn: &[u8]) -> Session
         ensures { λ r. ⌜ r ≡ verdictTakenSession self kind yes (now (fascn .entry)) ⌝ }
     {
         let card = self.card;

@@ -1,0 +1,35 @@
+// Preview (document 02, request 6): the stamp that a verdict would lead to, before it is filed.
+use crate::stamp;
+use crate::state::Reply;
+use crate::state::Session;
+ghost use mathlib.Core.Path.{_≡_};
+ghost use lib.ListN.{length};
+ghost use Rattle.session.specs.Operation.{replyNumber, previewRefusal, previewBuffer};
+ghost use Rattle.session.specs.Promise.{PreviewPromise};
+
+impl Session {
+    // The verdict's refusals, and then the stamp's.
+    fn preview_refusal(self, kind: u8, yes: u8, fascn: &[u8], room: usize) -> Reply
+        ensures { λ r. ⌜ replyNumber r ≡ previewRefusal self kind yes (now (fascn .entry)) room ⌝ }
+    {
+        let reply = self.verdict_refusal(kind, yes, fascn);
+        if reply.number() != 0 {
+            return reply;
+        }
+        stamp::room_refusal(room)
+    }
+
+    // The stamp that this verdict followed by a stamp call would write, written to the first 45 bytes of out. No session is handed back.
+    pub fn preview(self, kind: u8, yes: u8, fascn: &[u8], out: &mut [u8]) -> Reply
+        ensures { λ r. ⌜ replyNumber r ≡ previewRefusal self kind yes (now (fascn .entry)) (length (now (out .entry))) ⌝ }
+        ensures { λ r. ⌜ now (out .exit) ≡ previewBuffer self kind yes (now (fascn .entry)) (now (out .entry)) ⌝ }
+        ensures for_every_list { λ r. ⌜ PreviewPromise self kind yes (now (fascn .entry)) (now (out .entry)) (now (out .exit)) r ⌝ }
+    {
+        let reply = self.preview_refusal(kind, yes, fascn, out.len());
+        if reply.number() == 0 {
+            let copy = self.take_verdict(kind, yes, fascn);
+            copy.write_stamp(out);
+        }
+        reply
+    }
+}
