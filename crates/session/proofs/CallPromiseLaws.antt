@@ -3,7 +3,7 @@
 use mathlib.Core.Path.{_≡_, refl, sym, ap, ap₂, subst, _∙_}
 use mathlib.Core.Bool.{Bool, true, false, cond}
 use mathlib.Core.Logic.{_↔_}
-use mathlib.Core.List.{List, [], _∷_, _++_}
+use mathlib.Core.List.{List, []}
 use Prim.Native.Nat.{ℕ}
 use native.Mathlib.Omega.{arith}
 use borrow.Author.Tests.{eqb-true, eqb-false, eq-eqb, not-false}
@@ -13,12 +13,12 @@ use lib.Seq.{take-at}
 use Rattle.common.specs.Lists.{overFront}
 use Rattle.card.specs.Date.{realDate}
 use Rattle.common.proofs.ListsLaws.{front-at}
-use Rattle.session.specs.Tables.{modeOpens, standsGranted, stampSize}
+use Rattle.session.specs.Tables.{modeOpens, stampSize}
 use Rattle.session.specs.Condition.{openConditions}
 use Rattle.session.specs.Reading.{Arguments, refusedBy}
-use Rattle.session.specs.Finding.{Finding, finding, standing, stampOf, Granted}
-use Rattle.session.specs.Operation.{replyNumber, given, commandGiven, dead, opened, openRefusal, openOf, commandOf, commandBuffer, answerRefusal, answerOf, answerBuffer, verdictOf, fieldOf, stampAnswer, stampBuffer, previewRefusal, previewBuffer}
-use Rattle.session.specs.Promise.{Call, argumentsOf, Host, callNumber, hostAfter, runCalls, Bytes, LentNow, Lent, goodOpening, History, startHost, finish, readingOf, stampFor, previewFor, OpenedBy, OpenPromise, CommandPromise, AnswerPromise, VerdictPromise, FieldPromise, StampPromise, PreviewPromise}
+use Rattle.session.specs.Finding.{finding, stampOf}
+use Rattle.session.specs.Operation.{replyNumber, given, commandGiven, dead, opened, openRefusal, openOf, commandOf, commandBuffer, answerRefusal, answerOf, answerBuffer, verdictOf, fieldOf, stampAnswer, stampBuffer, previewRefusal, previewOf}
+use Rattle.session.specs.Promise.{Call, Bytes, goodOpening, History, finish, readingOf, Result, StampSays, OpenedBy, OpenPromise, CommandPromise, AnswerPromise, VerdictPromise, FieldPromise, StampPromise, PreviewPromise}
 use Rattle.session.specs.declared.state.Session.{Session}
 use Rattle.session.specs.declared.state.Reply.{Reply}
 use Rattle.session.specs.declared.state.Answered.{Answered}
@@ -61,6 +61,11 @@ open-promise mode date aid r e z object =
     let c = opened-zero (openRefusal mode date aid) (opened mode date aid) dead (r .session) (replyNumber (r .reply)) (eqb (openRefusal mode date aid) 0) refl e z in
     subst (λ (s : Session). OpenedBy (record { mode = mode; date = date; aid = aid }) s object) (sym (c .1)) (opening-begins mode date aid object (c .0))
 
+-- ---- what a call gives, of the definitions and of the code
+
+given-by : {n m j k : ℕ} {x y : List ℕ} → n ≡ m → j ≡ k → x ≡ y → _≡_ {A = Result} (record { number = m; count = k; bytes = y }) (record { number = n; count = j; bytes = x })
+given-by p q r = rw (p, q, r)
+
 -- ---- command
 
 pub command-promise : (s : Session) (before left : List ℕ) (r : Commanded) → commandGiven r ≡ commandOf s (length before) → left ≡ commandBuffer s before → CommandPromise s before left r
@@ -71,6 +76,7 @@ command-promise s before left r e b h es =
       number = ap (λ (x : ℕ × ℕ × Session). x .0) g ∙ p .command-number before;
       count = ap (λ (x : ℕ × ℕ × Session). x .1) g ∙ p .command-count before;
       bytes = b ∙ ap (λ (x : Session). commandBuffer x before) es ∙ p .command-bytes before;
+      result = given-by (ap (λ (x : ℕ × ℕ × Session). x .0) g) (ap (λ (x : ℕ × ℕ × Session). x .1) g) (b ∙ ap (λ (x : Session). commandBuffer x before) es);
       extended = extended h (Call.command before) (r .session) (finish h .object) tt (ap (λ (x : ℕ × ℕ × Session). record { session = x .2; object = finish h .object }) (sym g));
     }
 
@@ -91,6 +97,7 @@ answer-promise s object bytes cancelled left r b e w h es eo =
     ap₂ (λ (k : ℕ) (l : List ℕ). cond (eqb k 0) l (finish h .object)) (sym (n ∙ answer-number-is t object bytes cancelled)) (ap (λ (x : Session). answerBuffer x object bytes) (sym es) ∙ sym w) in
     record {
       number = n ∙ number-next h (Call.answer object bytes cancelled);
+      result = given-by n refl (w ∙ ap (λ (x : Session). answerBuffer x object bytes) es);
       extended = extended h (Call.answer object bytes cancelled) (r .session) _ (λ z. eo (n ∙ z), b) (ap₂ (λ (x : ℕ × Session) (l : List ℕ). record { session = x .1; object = l }) (sym g) buffer);
     }
 
@@ -101,6 +108,7 @@ verdict-promise s kind yesNo fascn r e h es =
     let g : given r ≡ verdictOf (finish h .session) kind yesNo fascn = e ∙ ap (λ (x : Session). verdictOf x kind yesNo fascn) es in
     record {
       number = ap (λ (x : ℕ × Session). x .0) g ∙ number-next h (Call.verdict kind yesNo fascn);
+      result = given-by (ap (λ (x : ℕ × Session). x .0) g) refl refl;
       extended = extended h (Call.verdict kind yesNo fascn) (r .session) (finish h .object) tt (ap (λ (x : ℕ × Session). record { session = x .1; object = finish h .object }) (sym g));
     }
 
@@ -111,6 +119,7 @@ field-promise s object tag value e h es =
     record {
       value = λ eo. e ∙ ap₂ (λ (x : Session) (l : List ℕ). fieldOf x l tag) es eo ∙ promise h .field-value tag;
       empty = λ z. e ∙ ap (λ (x : Session). fieldOf x object tag) es ∙ promise h .field-empty object tag z;
+      result = given-by refl refl (e ∙ ap (λ (x : Session). fieldOf x object tag) es);
       extended = extended h (Call.field object tag) s (finish h .object) tt (ap (λ (x : Session). record { session = x; object = finish h .object }) (sym es));
     }
 
@@ -120,26 +129,18 @@ front-take : (n : ℕ) (x l : List ℕ) → length x ≡ n → take n (overFront
 unfolding overFront
 front-take n x l e = take-at x (drop (length x) l) n e
 
--- what 45 bytes say that are the stamp of a history
-record Says (h : History) (left : List ℕ) : Type 0 where
-  granted : (getD left 1 0 ≡ standsGranted) ↔ Granted (readingOf h)
-  apart : (u : History) → (take stampSize left ≡ stampOf (finding (readingOf u))) ↔ (finding (readingOf h) ≡ finding (readingOf u))
+-- another name for the left side of an equation
+left-side : {A G : Type 0} (x : A) {y z : A} → x ≡ y → (y ≡ z) ↔ G → (x ≡ z) ↔ G
+left-side x e (to, back) = (λ p. to (sym e ∙ p), λ g. e ∙ back g)
 
-says : (h : History) (before left : List ℕ) → left ≡ overFront (stampOf (finding (readingOf h))) before → Says h left
+says : (h : History) (before left : List ℕ) → left ≡ overFront (stampOf (finding (readingOf h))) before → StampSays (readingOf h) left
 says h before left written =
-    let p = promise h in
     let f = finding (readingOf h) in
     let size : length (stampOf f) ≡ stampSize = stamp-length (readingOf h) (reached h .object) (reached h .holds) in
     record {
-      granted = by-byte f (ap (λ (l : List ℕ). getD l 1 0) written ∙ front-at (stampOf f) before 1 (omega (arith, size, stamp-long)) ∙ stamp-second f) (p .granted);
-      apart = λ u. by-stamp f (finding (readingOf u)) (ap (take stampSize) written ∙ front-take stampSize (stampOf f) before size) (p .apart u);
+      granted = left-side (getD left 1 0) (ap (λ (l : List ℕ). getD l 1 0) written ∙ front-at (stampOf f) before 1 (omega (arith, size, stamp-long)) ∙ stamp-second f) (promise h .granted);
+      apart = λ u. left-side (take stampSize left) (ap (take stampSize) written ∙ front-take stampSize (stampOf f) before size) (promise h .apart u);
     }
-  where
-    by-byte : (f : Finding) {n : ℕ} {G : Type 0} → n ≡ standing f → (standing f ≡ 1) ↔ G → (n ≡ 1) ↔ G
-    by-byte f e (to, back) = (λ z. to (sym e ∙ z), λ z. e ∙ back z)
-
-    by-stamp : (f u : Finding) {l : List ℕ} {G : Type 0} → l ≡ stampOf f → (stampOf f ≡ stampOf u) ↔ G → (l ≡ stampOf u) ↔ G
-    by-stamp f u e (to, back) = (λ z. to (sym e ∙ z), λ z. e ∙ back z)
 
 -- a call that is not refused has written
 has-written : (k : ℕ) (x y : List ℕ) {n : ℕ} {left : List ℕ} → n ≡ k → left ≡ cond (eqb k 0) x y → n ≡ 0 → left ≡ x
@@ -147,33 +148,33 @@ has-written k x y e w z = w ∙ ap (λ (t : Bool). cond t x y) (eq-eqb k 0 (sym 
 
 pub stamp-promise : (s : Session) (before left : List ℕ) (r : Answered) → given r ≡ stampAnswer s (length before) → left ≡ stampBuffer s before → StampPromise s before left r
 stamp-promise s before left r e b h es =
-    let p = promise h in
     let g : given r ≡ stampAnswer (finish h .session) (length before) = e ∙ ap (λ (x : Session). stampAnswer x (length before)) es in
-    let bytes : left ≡ stampFor (readingOf h) before = b ∙ ap (λ (x : Session). stampBuffer x before) es ∙ p .stamp-bytes before in
-    let number : replyNumber (r .reply) ≡ refusedBy (readingOf h) (Arguments.stamp (length before)) = ap (λ (x : ℕ × Session). x .0) g ∙ p .stamp-number before in
+    let w : left ≡ stampBuffer (finish h .session) before = b ∙ ap (λ (x : Session). stampBuffer x before) es in
+    let bytes = w ∙ promise h .stamp-bytes before in
+    let number = ap (λ (x : ℕ × Session). x .0) g ∙ promise h .stamp-number before in
     record {
       number = number;
       bytes = bytes;
-      granted = λ z. says h before left (has-written _ _ _ number bytes z) .granted;
-      apart = λ z. says h before left (has-written _ _ _ number bytes z) .apart;
+      says = λ z. says h before left (has-written (refusedBy (readingOf h) (Arguments.stamp (length before))) _ before number bytes z);
+      result = given-by (ap (λ (x : ℕ × Session). x .0) g) refl w;
       extended = extended h (Call.stamp before) (r .session) (finish h .object) tt (ap (λ (x : ℕ × Session). record { session = x .1; object = finish h .object }) (sym g));
     }
 
 -- ---- preview
 
-pub preview-promise : (s : Session) (kind yesNo : ℕ) (fascn before left : List ℕ) (r : Reply) → replyNumber r ≡ previewRefusal s kind yesNo fascn (length before) → left ≡ previewBuffer s kind yesNo fascn before
-    → PreviewPromise s kind yesNo fascn before left r
-preview-promise s kind yesNo fascn before left r e b h es =
-    let p = promise h in
-    let v = with-call h (Call.verdict kind yesNo fascn) tt in
-    let bytes : left ≡ previewFor h kind yesNo fascn before = b ∙ ap (λ (x : Session). previewBuffer x kind yesNo fascn before) es ∙ p .preview-bytes kind yesNo fascn before in
-    let number : replyNumber r ≡ refusedBy (readingOf h) (Arguments.preview kind yesNo fascn (length before)) =
-    e ∙ ap (λ (x : Session). previewRefusal x kind yesNo fascn (length before)) es ∙ p .preview-number kind yesNo fascn before in
+pub preview-promise : (s : Session) (kind yesNo : ℕ) (fascn before left : List ℕ) (r : Reply) → (replyNumber r, left) ≡ previewOf s kind yesNo fascn before → PreviewPromise s kind yesNo fascn before left r
+preview-promise s kind yesNo fascn before left r e h es =
+    let c = Call.verdict kind yesNo fascn in
+    let g : (replyNumber r, left) ≡ previewOf (finish h .session) kind yesNo fascn before = e ∙ ap (λ (x : Session). previewOf x kind yesNo fascn before) es in
+    let n = ap (λ (x : ℕ × List ℕ). x .0) g in
+    let w = ap (λ (x : ℕ × List ℕ). x .1) g in
+    let bytes = w ∙ promise h .preview-bytes kind yesNo fascn before in
+    let number = n ∙ promise h .preview-number kind yesNo fascn before in
     record {
       number = number;
       bytes = bytes;
-      granted = λ z. says v before left (has-written _ _ _ number bytes z) .granted;
-      apart = λ z. says v before left (has-written _ _ _ number bytes z) .apart;
+      says = λ z. says (with-call h c tt) before left (has-written (refusedBy (readingOf h) (Arguments.preview kind yesNo fascn (length before))) _ before number bytes z);
+      result = given-by n refl w;
       extended = extended h (Call.preview kind yesNo fascn before) s (finish h .object) tt (ap (λ (x : Session). record { session = x; object = finish h .object }) (sym es));
     }
 
@@ -200,6 +201,6 @@ pub stamp-all : (s : Session) (before left : List ℕ) (r : Answered) → given 
     → (given r ≡ stampAnswer s (length before)) × ((left ≡ stampBuffer s before) × StampPromise s before left r)
 stamp-all s before left r e b = (e, (b, stamp-promise s before left r e b))
 
-pub preview-all : (s : Session) (kind yesNo : ℕ) (fascn before left : List ℕ) (r : Reply) → replyNumber r ≡ previewRefusal s kind yesNo fascn (length before) → left ≡ previewBuffer s kind yesNo fascn before
-    → (replyNumber r ≡ previewRefusal s kind yesNo fascn (length before)) × ((left ≡ previewBuffer s kind yesNo fascn before) × PreviewPromise s kind yesNo fascn before left r)
-preview-all s kind yesNo fascn before left r e b = (e, (b, preview-promise s kind yesNo fascn before left r e b))
+pub preview-all : (s : Session) (kind yesNo : ℕ) (fascn before left : List ℕ) (r : Reply) → replyNumber r ≡ previewRefusal s kind yesNo fascn (length before) → (replyNumber r, left) ≡ previewOf s kind yesNo fascn before
+    → ((replyNumber r, left) ≡ previewOf s kind yesNo fascn before) × ((replyNumber r ≡ previewRefusal s kind yesNo fascn (length before)) × PreviewPromise s kind yesNo fascn before left r)
+preview-all s kind yesNo fascn before left r e g = (g, (e, preview-promise s kind yesNo fascn before left r g))

@@ -15,6 +15,7 @@ use Rattle.card.specs.declared.command.Status.{Status}
 use Rattle.card.specs.declared.command.Status.the-variants.{Done, More, Again, Other}
 use Rattle.session.specs.Tables.{ends, capacity, dataOf, statusBytes, joinedCause}
 use Rattle.session.specs.Condition.{nothingLeft, commandConditions, answerConditions, stampConditions}
+use Rattle.session.proofs.PreviewLaws.{preview-reads}
 use Rattle.session.specs.Reading.{Opening, Arguments, Progress, Reading, begins, nextCommand, commandRefused, answerRefused, verdictRefused, goodEnd, judged, appended, causeBy, answerTaken, refusedBy, accepted, read, reading}
 
 -- a cause has ended it: no command is outstanding, and step 3 is not reached
@@ -30,7 +31,7 @@ ended-stays r e (Arguments.answer size bytes cancelled) = rw (e .answered)
 ended-stays r e (Arguments.verdict kind yesNo fascn) = rw (e .not-all-read)
 ended-stays r e (Arguments.field size tag) = refl
 ended-stays r e (Arguments.stamp room) = either (λ (q : Reading). q ≡ r) (eqb (refusalOf (stampConditions room)) 0) refl refl
-ended-stays r e (Arguments.preview kind yesNo fascn room) = either (λ (q : Reading). q ≡ r) (eqb (refusedBy r (Arguments.preview kind yesNo fascn room)) 0) refl refl
+ended-stays r e (Arguments.preview kind yesNo fascn room) = preview-reads r kind yesNo fascn room
 
 pub ended-list : (r : Reading) → Ended r → (ts : List Arguments) → reading r ts ≡ r
 ended-list r e [] = refl

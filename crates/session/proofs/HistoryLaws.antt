@@ -1,14 +1,13 @@
--- Histories: with one call more, and without their previews.
+-- Histories: with one call more, and with previews taken out.
 -- Assumes nothing.
-use mathlib.Core.Path.{_≡_, refl, ap, _∙_}
-use mathlib.Core.Bool.{cond}
+use mathlib.Core.Path.{_≡_, refl, sym, ap, subst, _∙_}
 use mathlib.Core.List.{List, [], _∷_, _++_, map}
 use Prim.Native.Nat.{ℕ}
-use lib.Dec.{eqb}
-use Rattle.common.proofs.TestLaws.{either}
-use Rattle.session.specs.Reading.{Arguments, Reading, begins, refusedBy, read, reading}
-use Rattle.session.specs.Promise.{Call, argumentsOf, Host, hostAfter, runCalls, LentNow, Lent, History, startHost, finish, isPreview, withoutPreviews, Result, resultOf, otherResults, PreviewsOut, ExtendedBy}
+use lib.ListN.{length}
+use Rattle.session.specs.Reading.{Arguments, Reading, begins, read, reading}
+use Rattle.session.specs.Promise.{Call, argumentsOf, Host, hostAfter, runCalls, LentNow, Lent, History, startHost, finish, Result, resultOf, results, Marked, allCalls, keptCalls, keptResults, PreviewsOut, ExtendedBy}
 use Rattle.session.specs.declared.state.Session.{Session}
+use Rattle.session.proofs.PreviewLaws.{preview-reads}
 
 -- ---- one call more
 
@@ -29,47 +28,34 @@ call-finish h c l = run-more (h .calls) (startHost h) c
 pub extended : (h : History) (c : Call) (s : Session) (object : List ℕ) → LentNow (finish h) c → hostAfter (finish h) c ≡ record { session = s; object = object } → ExtendedBy h c s object
 extended h c s object l e = record { history = with-call h c l; opening = refl; buffer = refl; calls = refl; host = call-finish h c l ∙ e }
 
--- ---- without its previews
+-- ---- previews taken out
 
--- two lists that a host makes with the same results but for previews, and that are read alike
-record Alike (r : Reading) (h : Host) (cs ds : List Call) : Type 0 where
-  host : runCalls h cs ≡ runCalls h ds
-  results : otherResults h cs ≡ otherResults h ds
-  read-alike : reading r (map argumentsOf cs) ≡ reading r (map argumentsOf ds)
-  lent : Lent h cs → Lent h ds
+-- two lists that a host makes, the first with previews marked, and what is read of both
+record Alike (r : Reading) (h : Host) (ms : List Marked) : Type 0 where
+  same-host : runCalls h (allCalls ms) ≡ runCalls h (keptCalls ms)
+  same-results : keptResults h ms ≡ results h (keptCalls ms)
+  same-reading : reading r (map argumentsOf (allCalls ms)) ≡ reading r (map argumentsOf (keptCalls ms))
+  lent-too : Lent h (allCalls ms) → Lent h (keptCalls ms)
 
--- with one call before both
-kept : (r : Reading) (h : Host) (c : Call) {cs ds : List Call} → Alike (read r (argumentsOf c)) (hostAfter h c) cs ds → Alike r h (c ∷ cs) (c ∷ ds)
-kept r h c a =
-    record { host = a .host; results = ap (λ (l : List Result). cond (isPreview c) l (resultOf h c ∷ l)) (a .results); read-alike = a .read-alike; lent = λ l. (l .0, a .lent (l .1)) }
+alike : (ms : List Marked) (r : Reading) (h : Host) → Alike r h ms
+alike [] r h = record { same-host = refl; same-results = refl; same-reading = refl; lent-too = λ l. l }
+alike (Marked.kept c ∷ ms) r h =
+    let a = alike ms (read r (argumentsOf c)) (hostAfter h c) in
+    record { same-host = a .same-host; same-results = ap (λ (l : List Result). resultOf h c ∷ l) (a .same-results); same-reading = a .same-reading; lent-too = λ l. (l .0, a .lent-too (l .1)) }
+alike (Marked.removed kind yesNo fascn out ∷ ms) r h =
+    let a = alike ms r h in
+    let stays : read r (Arguments.preview kind yesNo fascn (length out)) ≡ r = preview-reads r kind yesNo fascn (length out) in
+    record { same-host = a .same-host; same-results = a .same-results; same-reading = ap (λ (q : Reading). reading q (map argumentsOf (allCalls ms))) stays ∙ a .same-reading; lent-too = λ l. a .lent-too (l .1) }
 
-preview-reads : (r : Reading) (kind yesNo : ℕ) (fascn : List ℕ) (room : ℕ) → read r (Arguments.preview kind yesNo fascn room) ≡ r
-unfolding read
-preview-reads r kind yesNo fascn room = either (λ (q : Reading). q ≡ r) (eqb (refusedBy r (Arguments.preview kind yesNo fascn room)) 0) refl refl
-
--- with a preview before one of them
-dropped : (r : Reading) (h : Host) (kind yesNo : ℕ) (fascn out : List ℕ) {cs ds : List Call} → Alike r h cs ds → Alike r h (Call.preview kind yesNo fascn out ∷ cs) ds
-dropped r h kind yesNo fascn out {cs} a =
-    record { host = a .host; results = a .results; read-alike = ap (λ (q : Reading). reading q (map argumentsOf cs)) (preview-reads r kind yesNo fascn _) ∙ a .read-alike; lent = λ l. a .lent (l .1) }
-
-without : (cs : List Call) (r : Reading) (h : Host) → Alike r h cs (withoutPreviews cs)
-without [] r h = record { host = refl; results = refl; read-alike = refl; lent = λ l. l }
-without (Call.command out ∷ cs) r h = kept r h _ (without cs _ _)
-without (Call.answer object bytes cancelled ∷ cs) r h = kept r h _ (without cs _ _)
-without (Call.verdict kind yesNo fascn ∷ cs) r h = kept r h _ (without cs _ _)
-without (Call.field object tag ∷ cs) r h = kept r h _ (without cs _ _)
-without (Call.stamp out ∷ cs) r h = kept r h _ (without cs _ _)
-without (Call.preview kind yesNo fascn out ∷ cs) r h = dropped r h kind yesNo fascn out (without cs r h)
-
-pub previews-out : (h : History) → PreviewsOut h
-previews-out h =
-    let a = without (h .calls) (begins (h .opening)) (startHost h) in
+pub previews-out : (h : History) (ms : List Marked) → allCalls ms ≡ h .calls → PreviewsOut h ms
+previews-out h ms e =
+    let a = alike ms (begins (h .opening)) (startHost h) in
     record {
-      history = record { opening = h .opening; good = h .good; object = h .object; calls = withoutPreviews (h .calls); lent = a .lent (h .lent) };
+      history = record { opening = h .opening; good = h .good; object = h .object; calls = keptCalls ms; lent = a .lent-too (subst (Lent (startHost h)) (sym e) (h .lent)) };
       opening = refl;
       buffer = refl;
       calls = refl;
-      results = a .results;
-      host = a .host;
-      reading = a .read-alike;
+      results = a .same-results;
+      host = ap (runCalls (startHost h)) (sym e) ∙ a .same-host;
+      reading = ap (λ (cs : List Call). reading (begins (h .opening)) (map argumentsOf cs)) (sym e) ∙ a .same-reading;
     }

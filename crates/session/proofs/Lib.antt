@@ -53,7 +53,7 @@ pub mod CountLaws
 pub mod CorrectionLaws
 -- RunLaws: every call, and every list of calls
 pub mod RunLaws
--- HistoryLaws: histories with one call more, and without their previews
+-- HistoryLaws: histories with one call more, and with previews taken out
 pub mod HistoryLaws
 -- PromiseLaws: demand 3
 pub mod PromiseLaws

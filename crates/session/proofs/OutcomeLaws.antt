@@ -1,14 +1,13 @@
 -- Outcomes: the places of the checks that verdicts serve, and outcomes that stay in range.
 -- Assumes nothing.
 use mathlib.Core.Path.{_≡_, refl, sym, ap, _∙_}
-use mathlib.Core.Bool.{Bool, true, false, cond}
+use mathlib.Core.Bool.{true, cond}
 use mathlib.Core.List.{List, [], _∷_}
 use Prim.Native.Nat.{ℕ, zero, suc, _+_, _-_, _<_}
 use native.Mathlib.Omega.{arith}
-use borrow.Author.Tests.{leb-true, eqb-true, eqb-false}
+use borrow.Author.Tests.{leb-true}
 use lib.Dec.{eqb, leb}
-use lib.ListN.{length, getD, set}
-use lib.Seq.{getD-set-same, getD-set-other}
+use lib.ListN.{getD, set}
 use Rattle.common.specs.Lists.{sameBytes, isIn}
 use Rattle.common.proofs.ListsLaws.{all-at, all-of}
 use Rattle.session.specs.Tables.{checks, goodKind, checkServed, verdictOutcome, expiryOutcome, listOutcome}

@@ -1,24 +1,22 @@
 -- Demand 3, proved: the promise of every history.
 -- Assumes nothing.
-use mathlib.Core.Path.{_≡_, refl, sym, ap, _∙_}
+use mathlib.Core.Path.{_≡_, refl, sym, ap, ap₂, _∙_}
 use mathlib.Core.Bool.{Bool, true, false, cond}
 use mathlib.Core.List.{List, [], _∷_}
 use Prim.Native.Nat.{ℕ, zero, suc}
 use native.Mathlib.Omega.{arith}
-use borrow.Author.Tests.{eqb-true, eq-eqb}
 use lib.Dec.{eqb}
 use lib.ListN.{length, getD}
 use Rattle.session.specs.Condition.{commandConditions, answerConditions, verdictConditions, stampConditions, previewConditions}
 use Rattle.session.specs.Reading.{hasNumber, Arguments, Reading, begins, nextCommand, commandRefused, answerRefused, verdictRefused, previewRefused, refusedBy, read, refusals}
 use Rattle.session.specs.Ranges.{inRange}
 use Rattle.session.specs.Finding.{finding, stampOf}
-use Rattle.session.specs.Operation.{opened, commandOf, commandBuffer, verdictOf, fieldOf, stampBuffer, previewRefusal, previewBuffer}
+use Rattle.session.specs.Operation.{opened, commandOf, commandBuffer, verdictOf, fieldOf, stampBuffer, previewOf}
 use Rattle.session.specs.Promise.{Call, argumentsOf, Host, callNumber, numbers, History, startHost, finish, argumentsIn, readingOf, readingWith, stampFor, countFor, previewFor, Promise}
 use Rattle.session.specs.declared.state.Session.{Session}
 use Rattle.common.specs.Lists.{overFront}
 use Rattle.common.specs.Refusal.{refusalOf}
-use Rattle.common.proofs.TestLaws.{by-test}
-use Rattle.common.proofs.ConditionLaws.{none-of-both, not-named}
+use Rattle.common.proofs.ConditionLaws.{refusal-append, not-named}
 use Rattle.session.proofs.Invariant.{session-of, Invariant, HostStandsFor}
 use Rattle.session.proofs.InRangeLaws.{in-range}
 use Rattle.session.proofs.CommandLaws.{command-gives, command-leaves}
@@ -81,20 +79,33 @@ number-next h c = let a = reached h in ap (λ (x : Host). callNumber x c) (a .sa
 stamp-next : (h : History) (out : List ℕ) → stampBuffer (finish h .session) out ≡ stampFor (readingOf h) out
 stamp-next h out = let a = reached h in ap (λ (x : Host). stampBuffer (x .session) out) (a .same) ∙ stamp-leaves (readingOf h) (a .object) out (a .holds)
 
--- a preview that the reading does not refuse has room for the stamp
-preview-room : (r : Reading) (kind yesNo : ℕ) (fascn : List ℕ) (room : ℕ) → previewRefused r kind yesNo fascn room ≡ 0 → refusalOf (stampConditions room) ≡ 0
-unfolding previewRefused
-preview-room r kind yesNo fascn room e = none-of-both (verdictConditions (r .opening .mode) (r .progress .step) (r .outcomes) kind yesNo fascn) (stampConditions room) refl e .1
+-- of a preview: the number of the verdict, and where that is 0 it is 6 or 0
+preview-by : (r : Reading) (kind yesNo : ℕ) (fascn : List ℕ) (room : ℕ) → previewRefused r kind yesNo fascn room ≡ cond (eqb (verdictRefused r kind yesNo fascn) 0) (refusalOf (stampConditions room)) (verdictRefused r kind yesNo fascn)
+unfolding previewRefused verdictRefused
+preview-by r kind yesNo fascn room = refusal-append (verdictConditions (r .opening .mode) (r .progress .step) (r .outcomes) kind yesNo fascn) (stampConditions room) refl
 
-preview-next : (h : History) (kind yesNo : ℕ) (fascn out : List ℕ) → previewBuffer (finish h .session) kind yesNo fascn out ≡ previewFor h kind yesNo fascn out
-unfolding previewBuffer
+-- the buffer of two calls, each with its number
+bytes-by : (b : Bool) (k n : ℕ) (x y : List ℕ) → (cond {A = ℕ × List ℕ} b (k, x) (n, y)) .1 ≡ cond b x y
+bytes-by true k n x y = refl
+bytes-by false k n x y = refl
+
+both : (k q : ℕ) (x y : List ℕ) → cond (eqb k 0) (cond (eqb q 0) x y) y ≡ cond (eqb (cond (eqb k 0) q k) 0) x y
+both k q x y = go (eqb k 0) refl
+  where
+    go : (b : Bool) → eqb k 0 ≡ b → cond b (cond (eqb q 0) x y) y ≡ cond (eqb (cond b q k) 0) x y
+    go true e = refl
+    go false e = rw e
+
+preview-next : (h : History) (kind yesNo : ℕ) (fascn out : List ℕ) → previewOf (finish h .session) kind yesNo fascn out .1 ≡ previewFor h kind yesNo fascn out
+unfolding previewOf
 preview-next h kind yesNo fascn out =
     let c = Call.verdict kind yesNo fascn in
-    let v = with-call h c tt in
-    let stamp : stampBuffer (verdictOf (finish h .session) kind yesNo fascn .1) out ≡ stampFor (readingWith h c) out = ap (λ (x : Host). stampBuffer (x .session) out) (sym (call-finish h c tt)) ∙ stamp-next v out in
-    rw (number-next h (Call.preview kind yesNo fascn out))
-    (by-test (λ (x y : List ℕ). x ≡ y) _ _ _ _ (eqb (refusedBy (readingOf h) (Arguments.preview kind yesNo fascn (length out))) 0)
-    (λ e. stamp ∙ ap (λ (b : Bool). cond b (overFront (stampOf (finding (readingWith h c))) out) out) (eq-eqb _ 0 (preview-room (readingOf h) kind yesNo fascn (length out) (eqb-true _ 0 e)))) (λ _. refl))
+    let stamp : stampBuffer (verdictOf (finish h .session) kind yesNo fascn .1) out ≡ stampFor (readingWith h c) out =
+    ap (λ (x : Host). stampBuffer (x .session) out) (sym (call-finish h c tt)) ∙ stamp-next (with-call h c tt) out in
+    bytes-by (eqb (verdictOf (finish h .session) kind yesNo fascn .0) 0) _ _ _ _
+    ∙ ap₂ (λ (n : ℕ) (l : List ℕ). cond (eqb n 0) l out) (number-next h c) stamp
+    ∙ both (verdictRefused (readingOf h) kind yesNo fascn) (refusalOf (stampConditions (length out))) (overFront (stampOf (finding (readingWith h c))) out) out
+    ∙ ap (λ (n : ℕ). cond (eqb n 0) (overFront (stampOf (finding (readingWith h c))) out) out) (sym (preview-by (readingOf h) kind yesNo fascn (length out)))
 
 -- ---- the promise
 

@@ -7,7 +7,7 @@ use Prim.Native.Nat.{ℕ}
 use borrow.Author.Tests.{ne-eqb}
 use lib.ListN.{length}
 use Rattle.session.specs.Ranges.{rangedValues, valuesInRange, inRange}
-use Rattle.session.specs.Operation.{dead, openRefusal, openOf, commandRefusal, commandOf, commandBuffer, answerRefusal, answerOf, answerBuffer, verdictRefusal, verdictOf, stampRefusal, stampAnswer, stampBuffer, previewRefusal, previewBuffer}
+use Rattle.session.specs.Operation.{dead, openRefusal, openOf, commandRefusal, commandOf, commandBuffer, answerRefusal, answerOf, answerBuffer, verdictRefusal, verdictOf, stampRefusal, stampAnswer, stampBuffer, previewRefusal}
 use Rattle.session.specs.declared.state.Session.{Session}
 
 -- a refused opening gives the dead session
@@ -33,10 +33,6 @@ pub stamp-unchanged : (s : Session) (out : List ℕ) → let k = stampRefusal s 
     (k ≡ 0 → ⊥) → (stampAnswer s (length out) ≡ (k, s)) × (stampBuffer s out ≡ out)
 unfolding stampAnswer stampBuffer
 stamp-unchanged s out h = (refl, rw (ne-eqb (stampRefusal s (length out)) 0 h))
-
-pub preview-unchanged : (s : Session) (kind yesNo : ℕ) (fascn out : List ℕ) → (previewRefusal s kind yesNo fascn (length out) ≡ 0 → ⊥) → previewBuffer s kind yesNo fascn out ≡ out
-unfolding previewBuffer
-preview-unchanged s kind yesNo fascn out h = rw (ne-eqb (previewRefusal s kind yesNo fascn (length out)) 0 h)
 
 -- ---- the dead session
 

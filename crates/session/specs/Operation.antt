@@ -279,8 +279,9 @@ unfoldable pub previewRefusal : Session → ℕ → ℕ → List ℕ → ℕ →
 previewRefusal s kind yesNo fascn room =
     refusalOf ((4, outOfRange s) ∷ previewConditions (s .opening .mode) (s .progress .step) (s .outcomes) kind yesNo fascn room)
 
--- The lent buffer then: as "a verdict call on a copy of the session, followed by a stamp call", leaves it. No session is handed back. That the number is that of the first of
--- these two calls that is refused is `preview-number-of-two` (proofs/PreviewLaws.antt).
-unfoldable pub previewBuffer : Session → ℕ → ℕ → List ℕ → List ℕ → List ℕ
-previewBuffer s kind yesNo fascn out =
-    cond (eqb (previewRefusal s kind yesNo fascn (length out)) 0) (stampBuffer (verdictOf s kind yesNo fascn .1) out) out
+-- "a verdict call on a copy of the session, followed by a stamp call": where the verdict call is accepted the number of the stamp call and the lent buffer as that leaves it; where
+-- it is refused its number, and the buffer as it was. No session is handed back. The number is `previewRefusal` (`preview-number`, proofs/PreviewLaws.antt).
+unfoldable pub previewOf : Session → ℕ → ℕ → List ℕ → List ℕ → ℕ × List ℕ
+previewOf s kind yesNo fascn out =
+    let copy = verdictOf s kind yesNo fascn in
+    cond (eqb (copy .0) 0) (stampAnswer (copy .1) (length out) .0, stampBuffer (copy .1) out) (copy .0, out)

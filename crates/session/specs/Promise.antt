@@ -1,8 +1,9 @@
 -- Demand 3, with requests 1 and 6 of document 02. A host makes any list of calls, one after another, from a session freshly opened; what then holds of the stamp, command,
--- field and preview call made next, of every call of the list, of the list without its previews, and of two such lists. The run goes by the definitions that the contracts cite; the reading is fed the calls' arguments, and never a result.
+-- field and preview call made next, of every call of the list, of the list with previews taken out, and of two such lists. The run goes by the definitions that the contracts
+-- cite; the reading is fed the calls' arguments, and never a result.
 -- Assumes nothing.
 use mathlib.Core.Path.{_≡_}
-use mathlib.Core.Bool.{Bool, true, false, cond, not, _&&_}
+use mathlib.Core.Bool.{Bool, true, cond, not, _&&_}
 use mathlib.Core.Logic.{_↔_}
 use mathlib.Core.List.{List, [], _∷_, _++_, map}
 use Prim.Native.Nat.{ℕ, _+_, _≤_, _<_}
@@ -13,7 +14,7 @@ use Rattle.card.specs.Date.{realDate}
 use Rattle.card.specs.Command.{aidRefused}
 use Rattle.session.specs.Tables.{modeInRange, standsGranted, answersMost, stampSize}
 use Rattle.session.specs.Ranges.{inRange}
-use Rattle.session.specs.Operation.{replyNumber, opened, commandOf, commandBuffer, answerRefusal, answerOf, answerBuffer, verdictOf, fieldOf, stampAnswer, stampBuffer, previewRefusal, previewBuffer}
+use Rattle.session.specs.Operation.{replyNumber, opened, commandOf, commandBuffer, answerRefusal, answerOf, answerBuffer, verdictOf, fieldOf, stampAnswer, stampBuffer, previewOf}
 use Rattle.session.specs.Reading.{Opening, Arguments, Reading, begins, nextCommand, hasNumber, refusedBy, reading, refusals, fieldIn, fieldFor, answersIn, answers}
 use Rattle.session.specs.Finding.{finding, standing, stampOf, Granted}
 use Rattle.session.specs.declared.state.Session.{Session}
@@ -53,7 +54,7 @@ callNumber h (Call.answer object bytes cancelled) = answerOf (h .session) object
 callNumber h (Call.verdict kind yesNo fascn) = verdictOf (h .session) kind yesNo fascn .0
 callNumber h (Call.field object tag) = 0
 callNumber h (Call.stamp out) = stampAnswer (h .session) (length out) .0
-callNumber h (Call.preview kind yesNo fascn out) = previewRefusal (h .session) kind yesNo fascn (length out)
+callNumber h (Call.preview kind yesNo fascn out) = previewOf (h .session) kind yesNo fascn out .0
 
 -- "Each gets the session as the call before left it"; "only the list's answer calls write" the object buffer. A preview "hands back no session": the host keeps the one it has.
 abbrev pub hostAfter : Host → Call → Host
@@ -127,22 +128,10 @@ readingOf h = reading (begins (h .opening)) (argumentsIn h)
 abbrev pub readingWith : History → Call → Reading
 readingWith h c = reading (begins (h .opening)) (map argumentsOf (h .calls ++ (c ∷ [])))
 
--- ---- the list without its previews
+-- ---- what each call of a list gives, and the list with previews taken out
 
-abbrev pub isPreview : Call → Bool
-isPreview (Call.command out) = false
-isPreview (Call.answer object bytes cancelled) = false
-isPreview (Call.verdict kind yesNo fascn) = false
-isPreview (Call.field object tag) = false
-isPreview (Call.stamp out) = false
-isPreview (Call.preview kind yesNo fascn out) = true
-
-abbrev pub withoutPreviews : List Call → List Call
-withoutPreviews [] = []
-withoutPreviews (c ∷ cs) = let later = withoutPreviews cs in cond (isPreview c) later (c ∷ later)
-
--- What a call gives beside the session: its number (of a field call 0), the count of a command call, and the bytes that are then in the buffer that it writes; of a field call
--- the bytes of the part.
+-- What a call gives beside the session: its number, 0 for a field call; the count of a command call; and the bytes then in the buffer that it may write, of a field call those of
+-- the part.
 pub record Result : Type 0 where
   pub number : ℕ
   pub count : ℕ
@@ -162,24 +151,45 @@ bytesOf h (Call.answer object bytes cancelled) = answerBuffer (h .session) objec
 bytesOf h (Call.verdict kind yesNo fascn) = []
 bytesOf h (Call.field object tag) = fieldOf (h .session) object tag
 bytesOf h (Call.stamp out) = stampBuffer (h .session) out
-bytesOf h (Call.preview kind yesNo fascn out) = previewBuffer (h .session) kind yesNo fascn out
+bytesOf h (Call.preview kind yesNo fascn out) = previewOf (h .session) kind yesNo fascn out .1
 
 abbrev pub resultOf : Host → Call → Result
 resultOf h c = record { number = callNumber h c; count = countOf h c; bytes = bytesOf h c }
 
--- The results of the calls of a list that are no previews.
-abbrev pub otherResults : Host → List Call → List Result
-otherResults h [] = []
-otherResults h (c ∷ cs) = let later = otherResults (hostAfter h c) cs in cond (isPreview c) later (resultOf h c ∷ later)
+abbrev pub results : Host → List Call → List Result
+results h [] = []
+results h (c ∷ cs) = resultOf h c ∷ results (hostAfter h c) cs
 
--- "It may stand anywhere in a list without altering later stamps": the list without its previews is a history too, each of its calls gives what it gave, and it ends with the same
--- session, buffer and reading, so that every call made next gives the same too.
-pub record PreviewsOut (h : History) : Type 0 where
+-- A list of calls, some of its previews marked to be taken out.
+pub data Marked : Type 0 where
+  kept : (c : Call) → Marked
+  removed : (kind yesNo : ℕ) (fascn out : List ℕ) → Marked
+
+-- All its calls, and those that are kept.
+abbrev pub allCalls : List Marked → List Call
+allCalls [] = []
+allCalls (Marked.kept c ∷ ms) = c ∷ allCalls ms
+allCalls (Marked.removed kind yesNo fascn out ∷ ms) = Call.preview kind yesNo fascn out ∷ allCalls ms
+
+abbrev pub keptCalls : List Marked → List Call
+keptCalls [] = []
+keptCalls (Marked.kept c ∷ ms) = c ∷ keptCalls ms
+keptCalls (Marked.removed kind yesNo fascn out ∷ ms) = keptCalls ms
+
+-- What those that are kept give where all are made.
+abbrev pub keptResults : Host → List Marked → List Result
+keptResults h [] = []
+keptResults h (Marked.kept c ∷ ms) = resultOf h c ∷ keptResults (hostAfter h c) ms
+keptResults h (Marked.removed kind yesNo fascn out ∷ ms) = keptResults (hostAfter h (Call.preview kind yesNo fascn out)) ms
+
+-- "It may stand anywhere in a list without altering later stamps": the calls that are kept are a history too, each gives what it gave among all, and they end with the same session,
+-- buffer and reading, so that every call made next gives the same too.
+pub record PreviewsOut (h : History) (ms : List Marked) : Type 0 where
   pub history : History
   pub opening : history .opening ≡ h .opening
   pub buffer : history .object ≡ h .object
-  pub calls : history .calls ≡ withoutPreviews (h .calls)
-  pub results : otherResults (startHost h) (h .calls) ≡ otherResults (startHost history) (history .calls)
+  pub calls : history .calls ≡ keptCalls ms
+  pub results : keptResults (startHost h) ms ≡ results (startHost history) (history .calls)
   pub host : finish h ≡ finish history
   pub reading : readingOf h ≡ readingOf history
 
@@ -213,12 +223,6 @@ pub record Promise (h : History) : Type 0 where
   pub field-value : (tag : ℕ) → fieldOf (finish h .session) (finish h .object) tag ≡ fieldIn (readingOf h) tag
   -- where the reading has none, or the buffer lent has another size, the part is empty, whatever is in it
   pub field-empty : (object : List ℕ) (tag : ℕ) → fieldFor (readingOf h) (length object) tag ≡ [] → fieldOf (finish h .session) object tag ≡ []
-  -- a preview made next is refused by the reading's number, or writes the 45 bytes of the finding of the list with that verdict call at its end and leaves the rest
-  pub preview-number : (kind yesNo : ℕ) (fascn out : List ℕ)
-      → callNumber (finish h) (Call.preview kind yesNo fascn out) ≡ refusedBy (readingOf h) (Arguments.preview kind yesNo fascn (length out))
-  pub preview-bytes : (kind yesNo : ℕ) (fascn out : List ℕ) → previewBuffer (finish h .session) kind yesNo fascn out ≡ previewFor h kind yesNo fascn out
-  -- taking the previews out alters nothing else
-  pub previews-out : PreviewsOut h
   -- d: each call of the list that has a number was refused where the reading says so, by that number; refusal 4 fits none
   pub refused : numbers (startHost h) (h .calls) ≡ refusals (begins (h .opening)) (argumentsIn h)
   pub never-four : (i : ℕ) → getD (numbers (startHost h) (h .calls)) i 0 ≡ 4 → ⊥
@@ -230,6 +234,12 @@ pub record Promise (h : History) : Type 0 where
   -- g: at most 8,196 answers are taken in a step, and 24,588 in all
   pub answers-step : (step : ℕ) → answersIn step (begins (h .opening)) (argumentsIn h) ≤ answersMost (h .opening .mode) step
   pub answers-all : let most = answersMost (h .opening .mode) in answers (begins (h .opening)) (argumentsIn h) ≤ most 0 + most 1 + most 2
+  -- h: a preview made next is refused by the reading's number, or writes the 45 bytes of the finding of the list with that verdict call at its end and leaves the rest
+  pub preview-number : (kind yesNo : ℕ) (fascn out : List ℕ)
+      → callNumber (finish h) (Call.preview kind yesNo fascn out) ≡ refusedBy (readingOf h) (Arguments.preview kind yesNo fascn (length out))
+  pub preview-bytes : (kind yesNo : ℕ) (fascn out : List ℕ) → previewOf (finish h .session) kind yesNo fascn out .1 ≡ previewFor h kind yesNo fascn out
+  -- i: taking any of the list's previews out alters nothing else
+  pub previews-out : (ms : List Marked) → allCalls ms ≡ h .calls → PreviewsOut h ms
 
 -- ---- the promise as the contracts carry it: for every history that reaches the session of the call
 
@@ -257,6 +267,7 @@ pub record CommandPromised (h : History) (before left : List ℕ) (r : Commanded
   pub number : replyNumber (r .reply) ≡ refusedBy (readingOf h) (Arguments.command (length before))
   pub count : r .count ≡ countFor (readingOf h) (length before)
   pub bytes : left ≡ commandFor (readingOf h) before
+  pub result : resultOf (finish h) (Call.command before) ≡ record { number = replyNumber (r .reply); count = r .count; bytes = left }
   pub extended : ExtendedBy h (Call.command before) (r .session) (finish h .object)
 
 abbrev pub CommandPromise : Session → List ℕ → List ℕ → Commanded → Type 0
@@ -265,6 +276,7 @@ CommandPromise s before left r = (h : History) → s ≡ finish h .session → C
 -- The host's buffer is then what an accepted answer left in it; one that is refused may have been lent another, and leaves the host's as it was.
 pub record AnswerPromised (h : History) (object bytes cancelled left : List ℕ) (r : Answered) : Type 0 where
   pub number : replyNumber (r .reply) ≡ refusedBy (readingOf h) (Arguments.answer (length object) bytes cancelled)
+  pub result : resultOf (finish h) (Call.answer object bytes cancelled) ≡ record { number = replyNumber (r .reply); count = 0; bytes = left }
   pub extended : ExtendedBy h (Call.answer object bytes cancelled) (r .session) (cond (eqb (replyNumber (r .reply)) 0) left (finish h .object))
 
 abbrev pub AnswerPromise : Session → List ℕ → List ℕ → List ℕ → List ℕ → Answered → Type 0
@@ -273,6 +285,7 @@ AnswerPromise s object bytes cancelled left r =
 
 pub record VerdictPromised (h : History) (kind yesNo : ℕ) (fascn : List ℕ) (r : Answered) : Type 0 where
   pub number : replyNumber (r .reply) ≡ refusedBy (readingOf h) (Arguments.verdict kind yesNo fascn)
+  pub result : resultOf (finish h) (Call.verdict kind yesNo fascn) ≡ record { number = replyNumber (r .reply); count = 0; bytes = [] }
   pub extended : ExtendedBy h (Call.verdict kind yesNo fascn) (r .session) (finish h .object)
 
 abbrev pub VerdictPromise : Session → ℕ → ℕ → List ℕ → Answered → Type 0
@@ -283,30 +296,34 @@ VerdictPromise s kind yesNo fascn r = (h : History) → s ≡ finish h .session 
 pub record FieldPromised (h : History) (s : Session) (object : List ℕ) (tag : ℕ) (part : List ℕ) : Type 0 where
   pub value : object ≡ finish h .object → part ≡ fieldIn (readingOf h) tag
   pub empty : fieldFor (readingOf h) (length object) tag ≡ [] → part ≡ []
+  pub result : resultOf (finish h) (Call.field object tag) ≡ record { number = 0; count = 0; bytes = part }
   pub extended : ExtendedBy h (Call.field object tag) s (finish h .object)
 
 abbrev pub FieldPromise : Session → List ℕ → ℕ → List ℕ → Type 0
 FieldPromise s object tag part = (h : History) → s ≡ finish h .session → FieldPromised h s object tag part
 
--- Where it is not refused, the second byte says granted exactly where the calls do, and the 45 bytes are the stamp of any other history exactly where the two
--- findings are the same.
+-- What the first 45 bytes of a buffer say that are the stamp of a reading: the second is granted exactly where the calls say so, and all are the stamp of any other history
+-- exactly where the two findings are the same.
+pub record StampSays (r : Reading) (left : List ℕ) : Type 0 where
+  pub granted : (getD left 1 0 ≡ standsGranted) ↔ Granted r
+  pub apart : (u : History) → (take stampSize left ≡ stampOf (finding (readingOf u))) ↔ (finding r ≡ finding (readingOf u))
+
 pub record StampPromised (h : History) (before left : List ℕ) (r : Answered) : Type 0 where
   pub number : replyNumber (r .reply) ≡ refusedBy (readingOf h) (Arguments.stamp (length before))
   pub bytes : left ≡ stampFor (readingOf h) before
-  pub granted : replyNumber (r .reply) ≡ 0 → (getD left 1 0 ≡ standsGranted) ↔ Granted (readingOf h)
-  pub apart : replyNumber (r .reply) ≡ 0 → (u : History) → (take stampSize left ≡ stampOf (finding (readingOf u))) ↔ (finding (readingOf h) ≡ finding (readingOf u))
+  pub says : replyNumber (r .reply) ≡ 0 → StampSays (readingOf h) left
+  pub result : resultOf (finish h) (Call.stamp before) ≡ record { number = replyNumber (r .reply); count = 0; bytes = left }
   pub extended : ExtendedBy h (Call.stamp before) (r .session) (finish h .object)
 
 abbrev pub StampPromise : Session → List ℕ → List ℕ → Answered → Type 0
 StampPromise s before left r = (h : History) → s ≡ finish h .session → StampPromised h before left r
 
--- The same of a preview, of the list with that verdict call at its end. The session stays: the history with the preview at its end is one that reaches it.
+-- A preview says what that stamp says of the list with that verdict call at its end, which is a history too. The session stays.
 pub record PreviewPromised (h : History) (s : Session) (kind yesNo : ℕ) (fascn before left : List ℕ) (r : Reply) : Type 0 where
   pub number : replyNumber r ≡ refusedBy (readingOf h) (Arguments.preview kind yesNo fascn (length before))
   pub bytes : left ≡ previewFor h kind yesNo fascn before
-  pub granted : replyNumber r ≡ 0 → (getD left 1 0 ≡ standsGranted) ↔ Granted (readingWith h (Call.verdict kind yesNo fascn))
-  pub apart : replyNumber r ≡ 0
-      → (u : History) → (take stampSize left ≡ stampOf (finding (readingOf u))) ↔ (finding (readingWith h (Call.verdict kind yesNo fascn)) ≡ finding (readingOf u))
+  pub says : replyNumber r ≡ 0 → StampSays (readingWith h (Call.verdict kind yesNo fascn)) left
+  pub result : resultOf (finish h) (Call.preview kind yesNo fascn before) ≡ record { number = replyNumber r; count = 0; bytes = left }
   pub extended : ExtendedBy h (Call.preview kind yesNo fascn before) s (finish h .object)
 
 abbrev pub PreviewPromise : Session → ℕ → ℕ → List ℕ → List ℕ → List ℕ → Reply → Type 0

@@ -1,5 +1,5 @@
--- Document 01's reading, with requests 1 and 6 of document 02, of an opening and a list of calls: "fed the opening's mode, date and AID and each call's arguments (not the session, and only the length of the
--- object buffer), never a result". It knows lists of bytes, and no session, no buffer and no place in one.
+-- Document 01's reading, with requests 1 and 6 of document 02, of an opening and a list of calls: "fed the opening's mode, date and AID and each call's arguments (not the
+-- session, and only the length of the object buffer), never a result". It knows lists of bytes, and no session, no buffer and no place in one.
 -- Assumes nothing.
 use mathlib.Core.Bool.{Bool, true, false, cond, _&&_}
 use mathlib.Core.Option.{Option}
@@ -209,7 +209,7 @@ refusedBy r (Arguments.field size tag) = 0
 refusedBy r (Arguments.stamp room) = refusalOf (stampConditions room)
 refusedBy r (Arguments.preview kind yesNo fascn room) = previewRefused r kind yesNo fascn room
 
--- What a call that is accepted makes of the reading. "Field and stamp calls change nothing", and a preview "may stand anywhere in a list without altering later stamps".
+-- What a call that is accepted makes of the reading. "Field and stamp calls change nothing"; nor does a preview, which "hands back no session" (document 02, request 6).
 abbrev pub accepted : Reading → Arguments → Reading
 accepted r (Arguments.command room) = withProgress r (sending (r .progress))
 accepted r (Arguments.answer size bytes cancelled) = answerTaken r (dataOf bytes) (statusBytes bytes) cancelled

@@ -4,11 +4,11 @@ use crate::state::Reply;
 use crate::state::Session;
 ghost use mathlib.Core.Path.{_≡_};
 ghost use lib.ListN.{length};
-ghost use Rattle.session.specs.Operation.{replyNumber, previewRefusal, previewBuffer};
+ghost use Rattle.session.specs.Operation.{replyNumber, previewRefusal, previewOf};
 ghost use Rattle.session.specs.Promise.{PreviewPromise};
 
 impl Session {
-    // The verdict's refusals, and then the stamp's.
+    // The verdict's refusals, and then 6.
     fn preview_refusal(self, kind: u8, yes: u8, fascn: &[u8], room: usize) -> Reply
         ensures { λ r. ⌜ replyNumber r ≡ previewRefusal self kind yes (now (fascn .entry)) room ⌝ }
     {
@@ -21,8 +21,8 @@ impl Session {
 
     // The stamp that this verdict followed by a stamp call would write, written to the first 45 bytes of out. No session is handed back.
     pub fn preview(self, kind: u8, yes: u8, fascn: &[u8], out: &mut [u8]) -> Reply
-        ensures { λ r. ⌜ replyNumber r ≡ previewRefusal self kind yes (now (fascn .entry)) (length (now (out .entry))) ⌝ }
-        ensures { λ r. ⌜ now (out .exit) ≡ previewBuffer self kind yes (now (fascn .entry)) (now (out .entry)) ⌝ }
+        ensures as_two_calls { λ r. ⌜ (replyNumber r, now (out .exit)) ≡ previewOf self kind yes (now (fascn .entry)) (now (out .entry)) ⌝ }
+        ensures in_order { λ r. ⌜ replyNumber r ≡ previewRefusal self kind yes (now (fascn .entry)) (length (now (out .entry))) ⌝ }
         ensures for_every_list { λ r. ⌜ PreviewPromise self kind yes (now (fascn .entry)) (now (out .entry)) (now (out .exit)) r ⌝ }
     {
         let reply = self.preview_refusal(kind, yes, fascn, out.len());

@@ -1,8 +1,8 @@
 -- `session::state::Session::preview` meets its contract: the stamp of the copy that has taken the verdict, or a refusal. Assumes nothing.
-use mathlib.Core.Path.{sym, _∙_}
+use mathlib.Core.Path.{sym, ap, _∙_}
+use Prim.Native.Nat.{ℕ}
 use borrow.Author.Needs.{needs}
-use Rattle.session.proofs.RefusedLaws.{preview-unchanged}
-use Rattle.session.proofs.PreviewLaws.{preview-fits, preview-written}
+use Rattle.session.proofs.PreviewLaws.{preview-fits, preview-unchanged, preview-written}
 use Rattle.session.proofs.CallPromiseLaws.{preview-all}
 use Rattle.session.proofs.state.Session.preview.Statement.{statement}
 use Rattle.session.proofs.state.Session.preview.Tie as tie
@@ -18,13 +18,17 @@ returns c =
     let test = taken .before in
     let refusal = test .before .before in
     let a = refusal .before .before .before .args in
-    preview-all _ _ _ _ _ _ _ (refusal .preview-refusal .ensures) (preview-written (a .self) (a .kind) (a .yes) (a .fascn .now) (a .out .now) (refusal .preview-refusal .ensures) (sym (test .before .number .ensures) ∙ test .if1 .taken) (rw (← taken .take-verdict .ensures) (c .before .before .write-stamp .ensures)))
+    let n = refusal .preview-refusal .ensures in
+    preview-all (a .self) (a .kind) (a .yes) (a .fascn .now) (a .out .now) _ (refusal .preview-refusal .result) n
+    (preview-written (a .self) (a .kind) (a .yes) (a .fascn .now) (a .out .now) n (sym (test .before .number .ensures) ∙ test .if1 .taken) (rw (← taken .take-verdict .ensures) (c .before .before .write-stamp .ensures)))
 
 returns-2 : tie.Need-returns-2
 returns-2 c =
     let refusal = c .before .before in
     let a = refusal .before .before .before .args in
-    preview-all _ _ _ _ _ _ _ (refusal .preview-refusal .ensures) (sym (preview-unchanged (a .self) (a .kind) (a .yes) (a .fascn .now) (a .out .now) (λ z. c .if1 .left (c .before .number .ensures ∙ refusal .preview-refusal .ensures ∙ z))))
+    let n = refusal .preview-refusal .ensures in
+    preview-all (a .self) (a .kind) (a .yes) (a .fascn .now) (a .out .now) (a .out .now) (refusal .preview-refusal .result) n
+    (ap (λ (k : ℕ). (k, a .out .now)) n ∙ sym (preview-unchanged (a .self) (a .kind) (a .yes) (a .fascn .now) (a .out .now) (λ z. c .if1 .left (c .before .number .ensures ∙ n ∙ z))))
 
 pub preview-spec : {M : Type 1} → statement M
 preview-spec = tie.close (tie.spec (λ c κs. search needs) (λ c κs. search needs) (λ c κs. search needs) write-stamp-requires (λ c. search needs) returns returns-2)
