@@ -1,9 +1,10 @@
-"""The gate program of document 01, with requests 1 and 5 of document 02, in plain Python.
+"""The gate program of document 01, with requests 1 and 5 of document 02, in plain Python, and the session's calls, with request 6.
 
 `run(data)` is what the program writes to standard output when its standard
 input is `data`.  The sections stand in the order of document 01.
 """
 
+import copy
 import sys
 
 # ---------------------------------------------------------------- FASC-N
@@ -225,6 +226,7 @@ CHECK_OF_KIND = {1: 1, 2: 2, 3: 5, 4: 6}
 UNNEEDED, AWAITED, PASSED, FAILED, OTHER_CARD = 0, 1, 2, 3, 4
 OPEN, GRANTED, REJECTED = 0, 1, 2
 STEP_LIMIT = 4096
+STAMP_SIZE = 45
 
 
 def opening_refusal(mode, date, aid):
@@ -255,11 +257,14 @@ class Session:
         self.next_command = select(aid)
         self.outstanding = None             # the command sent and not yet answered
         self.after_6c = False               # was the answer taken last a 6C?
+        self.fields = {}                    # those that can be asked for, by tag, from their step's good end on
 
-    def command(self):
+    def command(self, room=22):
         """Refusal number and the bytes of the command."""
         if self.step == 3 or self.reading_cause or self.outstanding is not None:
             return 5, b""
+        if room < len(self.next_command):
+            return 6, b""
         self.outstanding = self.next_command
         return 0, self.outstanding
 
@@ -294,7 +299,10 @@ class Session:
         if self.step == 0:
             return read_template(self.joined)
         if self.step == 2:
-            return read_object(FINGERS, self.joined)[0]
+            cause, fields = read_object(FINGERS, self.joined)
+            if cause == 0:
+                self.fields[0xBC] = fields[0xBC]
+            return cause
         cause, fields = read_object(UNSIGNED if self.mode == 2 else SIGNED, self.joined)
         if cause:
             return cause
@@ -305,6 +313,7 @@ class Session:
         if cause:
             return cause
         self.fascn, self.expiry = fields[0x30], expiry
+        self.fields = {tag: value for tag, value in fields.items() if tag != 0xFE}
         self.outcomes[3] = PASSED if expiry >= self.date else FAILED
         self.outcomes[4] = FAILED if key_of(digits) in cards else PASSED
         return 0
@@ -340,6 +349,12 @@ class Session:
             self.outcomes[check] = PASSED if fascn == self.fascn else OTHER_CARD
         return 0
 
+    def preview(self, kind, yes, fascn, room):
+        """Refusal number and the stamp that the verdict would lead to, None where refused; the session stays."""
+        copied = copy.deepcopy(self)
+        number = copied.verdict(kind, yes, fascn) or (6 if room < STAMP_SIZE else 0)
+        return number, None if number else copied.stamp()
+
     # The finding's two values that are worked out from the others.
 
     def cause(self):
@@ -367,7 +382,7 @@ class Session:
             + (self.fascn or bytes(25))
             + (self.expiry or 0).to_bytes(4, "big")
         )
-        assert len(written) == 45
+        assert len(written) == STAMP_SIZE
         return written
 
 

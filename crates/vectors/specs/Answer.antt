@@ -11,8 +11,9 @@ use Rattle.vectors.specs.ObjectText.{headerText, templateText, objectTex
 use Rattle.vectors.specs.CommandText.{selectText, selectAgainText, getDataText, getResponseText, statusText}
 use Rattle.vectors.specs.VisualText.{lookedUpText}
 use Rattle.vectors.specs.MergeText.{mergeText}
+use Rattle.vectors.specs.CallsText.{callsText}
 use Rattle.vectors.specs.declared.answer.VectorCall.{VectorCall}
-use Rattle.vectors.specs.declared.answer.VectorCall.the-variants.{Unknown, Unpack, Pack, Header, Template, Date, Real, Object, Select, SelectAgain, GetData, GetResponse, Status, Cin, Merge}
+use Rattle.vectors.specs.declared.answer.VectorCall.the-variants.{Unknown, Unpack, Pack, Header, Template, Date, Real, Object, Select, SelectAgain, GetData, GetResponse, Status, Cin, Merge, Calls}
 
 -- ---- the names
 
@@ -66,6 +67,8 @@ callRows =
     ∷ (0x63 ∷ 0x69 ∷ 0x6E ∷ [], Cin)
     -- merge
     ∷ (0x6D ∷ 0x65 ∷ 0x72 ∷ 0x67 ∷ 0x65 ∷ [], Merge)
+    -- calls
+    ∷ (0x63 ∷ 0x61 ∷ 0x6C ∷ 0x6C ∷ 0x73 ∷ [], Calls)
     ∷ []
 
 unfoldable pub callNamed : List ℕ → VectorCall
@@ -90,3 +93,4 @@ answerText (GetResponse room) s = getResponseText room s
 answerText Status s = statusText s
 answerText Cin s = lookedUpText s
 answerText Merge s = mergeText s
+answerText Calls s = callsText s

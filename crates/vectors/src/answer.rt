@@ -2,6 +2,7 @@
 // a variant of VectorCall, a row at the front of call_of, an arm of answer, and a function that writes its text, in the file of its subject;
 // in specs/Answer.antt a row at the end of `callRows` and a row of `answerText`, and the definition of that text in the file of its subject;
 // in the proofs of call_of and of answer a line each, and a proof of the function that writes the text.
+mod calls;
 mod command;
 pub(crate) mod fascn;
 mod merge;
@@ -35,6 +36,7 @@ pub(crate) enum VectorCall {
     Status,
     Cin,
     Merge,
+    Calls,
 }
 
 // The call of a row where the name is the row's, else the other.
@@ -48,7 +50,8 @@ fn row(name: &[u8], word: &[u8], call: VectorCall, other: VectorCall) -> VectorC
 pub(crate) fn call_of(name: &[u8]) -> VectorCall
     ensures { λ r. ⌜ r ≡ callNamed (now (name .entry)) ⌝ }
 {
-    let c = row(name, b"merge", VectorCall::Merge, VectorCall::Unknown);
+    let c = row(name, b"calls", VectorCall::Calls, VectorCall::Unknown);
+    let c = row(name, b"merge", VectorCall::Merge, c);
     let c = row(name, b"cin", VectorCall::Cin, c);
     let c = row(name, b"status", VectorCall::Status, c);
     let c = row(name, b"shortgetresponse", VectorCall::GetResponse(4), c);
@@ -106,5 +109,6 @@ pub(crate) fn answer(out: &mut [u8], at: usize, call: VectorCall, s: &[u8]) -> u
         VectorCall::Status => command::add_status(out, at, s),
         VectorCall::Cin => visual::add_looked_up(out, at, s),
         VectorCall::Merge => merge::add_merge(out, at, s),
+        VectorCall::Calls => calls::add_calls(out, at, s),
     }
 }

@@ -1,4 +1,4 @@
-// Runs the vectors of standard input through the proved functions of the crates card and ccl, and prints each line with what they say of it. The
+// Runs the vectors of standard input through the proved functions of the crates card, ccl and session, and prints each line with what they say of it. The
 // expected lines, in the file `stdout`, are written from the documents.
 //
 // A line is `PLACE: CALL HEX`: where the vector is from, one word, and pairs of upper-case hexadecimal digits. What it gives is `lineText` in the definitions, and
@@ -16,7 +16,7 @@ ghost use mathlib.Core.Path.{_≡_};
 ghost use Prim.Native.Nat.{_≤_};
 ghost use lib.ListN.{length, take};
 
-// The most bytes of a line and its 0A, and of the text of a block: an empty line, the worst case, gives 17 bytes for one.
+// The most bytes of a line and its 0A, and of the text of a block: an empty line gives 17 bytes for one, and only a line that asks for one field again and again gives more.
 const BLOCK: usize = 65536;
 
 const TEXT: usize = 18 * BLOCK;

@@ -64,6 +64,10 @@ returns-15 : tie.Need-returns-15
 unfolding answerText
 returns-15 c = rw (c .before .before .before .before .enum-told10 .given .1) (c .before .before .add-merge .ensures)
 
+returns-16 : tie.Need-returns-16
+unfolding answerText
+returns-16 c = rw (c .before .before .before .before .enum-told11 .given .1) (c .before .before .add-calls .ensures)
+
 pub answer-spec : {M : Type 1} → statement M
 answer-spec =
     tie.close
@@ -73,9 +77,9 @@ answer-spec =
     (λ c. search needs) (λ c κs. search needs) (λ c. search needs) (λ c κs. search needs) (λ c. search needs) (λ c κs. search needs)
     (λ c. search needs) (λ c κs. search needs) (λ c. search needs) (λ c κs. search needs) (λ c. search needs) (λ c κs. search needs)
     (λ c. search needs) (λ c κs. search needs) (λ c. search needs) (λ c κs. search needs) (λ c. search needs) (λ c κs. search needs)
-    (λ c. search needs) returns (λ c. search needs) returns-2
+    (λ c. search needs) (λ c κs. search needs) (λ c. search needs) returns (λ c. search needs) returns-2
     (λ c. search needs) returns-3 (λ c. search needs) returns-4 (λ c. search needs) returns-5
     (λ c. search needs) returns-6 (λ c. search needs) returns-7 (λ c. search needs) returns-8
     (λ c. search needs) returns-9 (λ c. search needs) returns-10 (λ c. search needs) returns-11
     (λ c. search needs) returns-12 (λ c. search needs) returns-13 (λ c. search needs) returns-14
-    (λ c. search needs) returns-15)
+    (λ c. search needs) returns-15 (λ c. search needs) returns-16)

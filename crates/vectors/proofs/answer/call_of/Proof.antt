@@ -23,7 +23,8 @@ last-is name = refl
 returns : tie.Need-returns
 unfolding callNamed
 returns c =
-    let at-row20 = c .before .before in
+    let at-row21 = c .before .before in
+    let at-row20 = at-row21 .before .before in
     let at-row19 = at-row20 .before .before in
     let at-row18 = at-row19 .before .before in
     let at-row17 = at-row18 .before .before in
@@ -43,7 +44,8 @@ returns c =
     let at-row3 = at-row4 .before .before in
     let at-row2 = at-row3 .before .before in
     let at-row = at-row2 .before .before in
-    row-is _ _ _ _ (c .row21 .ensures)
+    row-is _ _ _ _ (c .row22 .ensures)
+    (row-is _ _ _ _ (at-row21 .row21 .ensures)
     (row-is _ _ _ _ (at-row20 .row20 .ensures)
     (row-is _ _ _ _ (at-row19 .row19 .ensures)
     (row-is _ _ _ _ (at-row18 .row18 .ensures)
@@ -62,7 +64,7 @@ returns c =
     (row-is _ _ _ _ (at-row5 .row5 .ensures)
     (row-is _ _ _ _ (at-row4 .row4 .ensures)
     (row-is _ _ _ _ (at-row3 .row3 .ensures)
-    (row-is _ _ _ _ (at-row2 .row2 .ensures) (row-is _ _ _ _ (at-row .row .ensures) (last-is _)))))))))))))))))))))
+    (row-is _ _ _ _ (at-row2 .row2 .ensures) (row-is _ _ _ _ (at-row .row .ensures) (last-is _))))))))))))))))))))))
 
 pub call-of-spec : {M : Type 1} → statement M
 call-of-spec =
@@ -75,4 +77,4 @@ call-of-spec =
     (λ c. search needs) (λ c κs. search needs) (λ c. search needs) (λ c κs. search needs) (λ c. search needs) (λ c κs. search needs)
     (λ c. search needs) (λ c κs. search needs) (λ c. search needs) (λ c κs. search needs) (λ c. search needs) (λ c κs. search needs)
     (λ c. search needs) (λ c κs. search needs) (λ c. search needs) (λ c κs. search needs) (λ c. search needs) (λ c κs. search needs)
-    returns)
+    (λ c. search needs) (λ c κs. search needs) returns)
