@@ -26,13 +26,7 @@ none-fit [] n e = tt
 none-fit ((k, true) ∷ rs) n e = absurd (eqb-false k 0 (not-true (eqb k 0) (and-left (not (eqb k 0)) (numbered rs) n)) e)
 none-fit ((k, false) ∷ rs) n e = (refl, none-fit rs (and-right (not (eqb k 0)) (numbered rs) n) e)
 
--- conditions after others: where none of either fits, none of each does
-pub none-of-both : (rs us : List (ℕ × Bool)) → numbered rs ≡ true → refusalOf (rs ++ us) ≡ 0 → (refusalOf rs ≡ 0) × (refusalOf us ≡ 0)
-none-of-both [] us n e = (refl, e)
-none-of-both ((k, true) ∷ rs) us n e = absurd (eqb-false k 0 (not-true (eqb k 0) (and-left (not (eqb k 0)) (numbered rs) n)) e)
-none-of-both ((k, false) ∷ rs) us n e = none-of-both rs us (and-right (not (eqb k 0)) (numbered rs) n) e
-
--- and the number is that of the first list where one of it fits, else that of the second
+-- conditions after others: the number is that of the first list where one of it fits, else that of the second
 pub refusal-append : (rs us : List (ℕ × Bool)) → numbered rs ≡ true → refusalOf (rs ++ us) ≡ cond (eqb (refusalOf rs) 0) (refusalOf us) (refusalOf rs)
 refusal-append [] us n = refl
 refusal-append ((k, true) ∷ rs) us n = rw (not-true (eqb k 0) (and-left (not (eqb k 0)) (numbered rs) n))

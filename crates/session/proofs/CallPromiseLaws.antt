@@ -201,6 +201,6 @@ pub stamp-all : (s : Session) (before left : List ℕ) (r : Answered) → given 
     → (given r ≡ stampAnswer s (length before)) × ((left ≡ stampBuffer s before) × StampPromise s before left r)
 stamp-all s before left r e b = (e, (b, stamp-promise s before left r e b))
 
-pub preview-all : (s : Session) (kind yesNo : ℕ) (fascn before left : List ℕ) (r : Reply) → replyNumber r ≡ previewRefusal s kind yesNo fascn (length before) → (replyNumber r, left) ≡ previewOf s kind yesNo fascn before
+pub preview-all : (s : Session) (kind yesNo : ℕ) (fascn before left : List ℕ) (r : Reply) → (replyNumber r ≡ previewRefusal s kind yesNo fascn (length before)) × ((replyNumber r, left) ≡ previewOf s kind yesNo fascn before)
     → ((replyNumber r, left) ≡ previewOf s kind yesNo fascn before) × ((replyNumber r ≡ previewRefusal s kind yesNo fascn (length before)) × PreviewPromise s kind yesNo fascn before left r)
-preview-all s kind yesNo fascn before left r e g = (g, (e, preview-promise s kind yesNo fascn before left r g))
+preview-all s kind yesNo fascn before left r e = (e .1, (e .0, preview-promise s kind yesNo fascn before left r (e .1)))

@@ -11,7 +11,7 @@ use lib.ListN.{length}
 use Rattle.common.specs.Refusal.{refusalOf}
 use Rattle.common.specs.Lists.{overFront}
 use Rattle.common.proofs.TestLaws.{and-both, either}
-use Rattle.common.proofs.ConditionLaws.{none-fit, none-of-both, refusal-append}
+use Rattle.common.proofs.ConditionLaws.{none-fit, refusal-append}
 use Rattle.session.specs.Tables.{checkServed, verdictOutcome, stampSize}
 use Rattle.session.specs.Condition.{verdictConditions, stampConditions}
 use Rattle.session.specs.Reading.{Arguments, Reading, refusedBy, read}
@@ -21,7 +21,7 @@ use Rattle.session.specs.declared.state.Session.{Session}
 use Rattle.session.proofs.OutcomeLaws.{verdict-small, set-in-range}
 use Rattle.session.proofs.RangesLaws.{groups-in-range}
 use Rattle.session.proofs.RefusedLaws.{stamp-unchanged}
-use Rattle.session.proofs.CallLaws.{stamp-accepted}
+use Rattle.session.proofs.CallLaws.{stamp-accepted, stamp-refused}
 
 module _ (s : Session) (kind yesNo : ℕ) (fascn : List ℕ) where
   -- the number is the verdict's, and where that is 0 it is 6 or 0
@@ -29,14 +29,6 @@ module _ (s : Session) (kind yesNo : ℕ) (fascn : List ℕ) where
   unfolding previewRefusal verdictRefusal
   preview-number-by room =
       refusal-append ((4, outOfRange s) ∷ verdictConditions (s .opening .mode) (s .progress .step) (s .outcomes) kind yesNo fascn) (stampConditions room) refl
-
-  -- where no condition fits, the verdict is taken and the stamp has room
-  clear : (room : ℕ) → previewRefusal s kind yesNo fascn room ≡ 0 → (verdictRefusal s kind yesNo fascn ≡ 0) × (refusalOf (stampConditions room) ≡ 0)
-  unfolding previewRefusal verdictRefusal
-  clear room e = none-of-both ((4, outOfRange s) ∷ verdictConditions (s .opening .mode) (s .progress .step) (s .outcomes) kind yesNo fascn) (stampConditions room) refl e
-
-  pub preview-fits : (room : ℕ) → previewRefusal s kind yesNo fascn room ≡ 0 → stampSize ≤ room
-  preview-fits room e = ltb-false room stampSize (none-fit (stampConditions room) refl (clear room e .1) .0)
 
   -- ---- the two calls
 
@@ -81,13 +73,34 @@ module _ (s : Session) (kind yesNo : ℕ) (fascn : List ℕ) where
           preview-taken out z ∙ ap₂ (λ (n : ℕ) (l : List ℕ). (n, l)) (sym k) (stamp-unchanged (verdictTakenSession s kind yesNo fascn) out (λ y. f (k ∙ sym (stamp-on-taken (length out) z) ∙ y)) .1)
       go false e = preview-not-taken out (eqb-false _ 0 e) ∙ ap (λ (n : ℕ). (n, out)) (sym (preview-number-by (length out) ∙ rw e))
 
-  -- One that is accepted writes the stamp of the session that has taken the verdict.
-  pub preview-written : (out : List ℕ) {k : ℕ} {left : List ℕ} → k ≡ previewRefusal s kind yesNo fascn (length out) → k ≡ 0
-      → left ≡ overFront (stampIn (verdictTakenSession s kind yesNo fascn)) out → (k, left) ≡ previewOf s kind yesNo fascn out
-  preview-written out e z p =
-      let c = clear (length out) (sym e ∙ z) in
-      ap₂ (λ (n : ℕ) (l : List ℕ). (n, l)) (z ∙ sym (c .1)) (stamp-accepted (verdictTakenSession s kind yesNo fascn) out (sym (stamp-on-taken (length out) (c .0))) (c .1) p)
-      ∙ sym (preview-taken out (c .0))
+  -- ---- as the code goes
+
+  -- the verdict is refused by a number
+  pub verdict-refuses : (out : List ℕ) {k : ℕ} → k ≡ verdictRefusal s kind yesNo fascn → (k ≡ 0 → ⊥) → (k ≡ previewRefusal s kind yesNo fascn (length out)) × ((k, out) ≡ previewOf s kind yesNo fascn out)
+  verdict-refuses out e f =
+      let none : verdictRefusal s kind yesNo fascn ≡ 0 → ⊥ = λ z. f (e ∙ z) in
+      (e ∙ sym (preview-number-by (length out) ∙ rw (ne-eqb _ 0 none)), ap (λ (n : ℕ). (n, out)) e ∙ sym (preview-not-taken out none))
+
+  -- it is taken, and the room gives a number
+  room-decides : (out : List ℕ) {j k : ℕ} {left : List ℕ} → j ≡ verdictRefusal s kind yesNo fascn → j ≡ 0 → k ≡ refusalOf (stampConditions (length out))
+      → left ≡ stampBuffer (verdictTakenSession s kind yesNo fascn) out → (k ≡ previewRefusal s kind yesNo fascn (length out)) × ((k, left) ≡ previewOf s kind yesNo fascn out)
+  room-decides out e z r w =
+      let taken = sym e ∙ z in
+      (r ∙ sym (preview-number-by (length out) ∙ rw (eq-eqb _ 0 taken)), ap₂ (λ (n : ℕ) (l : List ℕ). (n, l)) r w ∙ sym (preview-taken out taken))
+
+  pub room-accepts : (out : List ℕ) {j k : ℕ} {left : List ℕ} → j ≡ verdictRefusal s kind yesNo fascn → j ≡ 0 → k ≡ refusalOf (stampConditions (length out)) → k ≡ 0
+      → left ≡ overFront (stampIn (verdictTakenSession s kind yesNo fascn)) out → (k ≡ previewRefusal s kind yesNo fascn (length out)) × ((k, left) ≡ previewOf s kind yesNo fascn out)
+  room-accepts out e z r y w =
+      room-decides out e z r (stamp-accepted (verdictTakenSession s kind yesNo fascn) out (r ∙ sym (stamp-on-taken (length out) (sym e ∙ z))) y w)
+
+  pub room-refuses : (out : List ℕ) {j k : ℕ} → j ≡ verdictRefusal s kind yesNo fascn → j ≡ 0 → k ≡ refusalOf (stampConditions (length out)) → (k ≡ 0 → ⊥)
+      → (k ≡ previewRefusal s kind yesNo fascn (length out)) × ((k, out) ≡ previewOf s kind yesNo fascn out)
+  room-refuses out e z r f =
+      room-decides out e z r (stamp-refused (verdictTakenSession s kind yesNo fascn) out (r ∙ sym (stamp-on-taken (length out) (sym e ∙ z))) f)
+
+-- a buffer that 6 does not refuse has room for the stamp
+pub room-enough : (room : ℕ) {k : ℕ} → k ≡ refusalOf (stampConditions room) → k ≡ 0 → stampSize ≤ room
+room-enough room e z = ltb-false room stampSize (none-fit (stampConditions room) refl (sym e ∙ z) .0)
 
 -- ---- in a reading
 

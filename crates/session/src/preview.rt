@@ -8,28 +8,21 @@ ghost use Rattle.session.specs.Operation.{replyNumber, previewRefusal, p
 ghost use Rattle.session.specs.Promise.{PreviewPromise};
 
 impl Session {
-    // The verdict's refusals, and then 6.
-    fn preview_refusal(self, kind: u8, yes: u8, fascn: &[u8], room: usize) -> Reply
-        ensures { λ r. ⌜ replyNumber r ≡ previewRefusal self kind yes (now (fascn .entry)) room ⌝ }
-    {
-        let reply = self.verdict_refusal(kind, yes, fascn);
-        if reply.number() != 0 {
-            return reply;
-        }
-        stamp::room_refusal(room)
-    }
-
-    // The stamp that this verdict followed by a stamp call would write, written to the first 45 bytes of out. No session is handed back.
+    // The stamp that this verdict followed by a stamp call would write, written to the first 45 bytes of out. No session is handed back. Refused as the verdict is, and then by 6.
     pub fn preview(self, kind: u8, yes: u8, fascn: &[u8], out: &mut [u8]) -> Reply
         ensures as_two_calls { λ r. ⌜ (replyNumber r, now (out .exit)) ≡ previewOf self kind yes (now (fascn .entry)) (now (out .entry)) ⌝ }
         ensures in_order { λ r. ⌜ replyNumber r ≡ previewRefusal self kind yes (now (fascn .entry)) (length (now (out .entry))) ⌝ }
         ensures for_every_list { λ r. ⌜ PreviewPromise self kind yes (now (fascn .entry)) (now (out .entry)) (now (out .exit)) r ⌝ }
     {
-        let reply = self.preview_refusal(kind, yes, fascn, out.len());
-        if reply.number() == 0 {
+        let verdict = self.verdict_refusal(kind, yes, fascn);
+        if verdict.number() != 0 {
+            return verdict;
+        }
+        let room = stamp::room_refusal(out.len());
+        if room.number() == 0 {
             let copy = self.take_verdict(kind, yes, fascn);
             copy.write_stamp(out);
         }
-        reply
+        room
     }
 }
