@@ -1,9 +1,9 @@
 """Lists of direct calls on a session: the lines `document 02 (request 6), ..: calls HEX` of crates/vectors.
 
-Each example is a list of calls, and beside each call stands what it gives, worked out by hand from documents 01 and 02: the
-number that refuses it (0 for none) and the bytes then in the buffer that it is lent. `python3 tools/example_calls.py` spells the
-calls as a line of `vectors` does (crates/vectors/specs/CallsText.antt), runs them through tools/reference.py, which has to give the
-same, call by call, and then writes the lines into crates/vectors/stdin and crates/vectors/stdout in place of those that are there.
+Each example is a list of calls, and beside each call stands what it gives, stated from documents 01 and 02: the number that refuses
+it (0 for none) and the bytes then in the buffer that it is lent. `python3 tools/example_calls.py` spells the calls as a line of
+`vectors` does (crates/vectors/specs/CallsText.antt), runs them through tools/reference.py, which has to give the same, call by call,
+and then writes the lines into crates/vectors/stdin and crates/vectors/stdout in place of all lines `..: calls ..` that are there.
 """
 
 import pathlib
@@ -11,7 +11,7 @@ import pathlib
 import reference
 from reference import SS, exclusive_or, pack_values
 
-HERE = pathlib.Path(__file__).resolve().parent.parent / "crates" / "vectors"
+VECTORS = pathlib.Path(__file__).resolve().parent.parent / "crates" / "vectors"
 MOST_ROOM = 64
 
 
@@ -130,7 +130,7 @@ def field(tag, expected=''):
 
 
 def refused(kind, yes, room, f, n):
-    """A refused preview, and the verdict with the same words: the same number, unless only the room is at fault."""
+    """A preview refused by another number than 6, and the verdict with the same arguments, refused by the same number."""
     assert n != 6
     return [preview(kind, yes, room, f, n), verdict(kind, yes, f, n)]
 
@@ -144,7 +144,7 @@ F = bytes.fromhex('D4 32 48 58 21 0C 2D 31 71 B5 25 A1 68 5A 08 C9 2A DE 0A 61 8
 F_DIGITS = [int(c) for c in '1341' '0001' '987654' '1' '1' '1234567890' '1' '1341' '1']
 G = packed([int(c) for c in '1341' '0001' '987654' '1' '1' '1234567890' '1' '1342' '3'])    # differs in its last digits only
 H = packed([int(c) for c in '2341' '0001' '987654' '1' '1' '1234567890' '1' '1341' '1'])    # differs in its first digit only
-K = packed([int(c) for c in '1341' '0001' '987654' '1' '2' '1234567890' '1' '1341' '1'])    # same first 14 digits of the key, issue 2
+K = packed([int(c) for c in '1341' '0001' '987654' '1' '2' '1234567890' '1' '1341' '1'])    # differs in the issue digit only, the last of the key
 
 # ill-formed FASC-Ns, each with one fault
 SHORT = F[:24]
@@ -155,7 +155,7 @@ _rest = iter(F_DIGITS)
 _v = [next(_rest) if mark is None else mark for mark in reference.ORDER]
 _mark = list(_v); _mark[5] = 0                      # a digit where the first FS stands; check character made good
 MARK = pack_values(_mark + [exclusive_or(_mark)])
-_digit = list(_v); _digit[38 - 1] = 10              # a value above 9 where the last digit stands; check character made good
+_digit = list(_v); _digit[37] = 10                  # a value above 9 where the last digit stands; check character made good
 DIGIT = pack_values(_digit + [exclusive_or(_digit)])
 _end = list(_v); _end[38] = SS                      # SS where ES stands; check character made good
 END_MARK = pack_values(_end + [exclusive_or(_end)])
@@ -220,7 +220,7 @@ def reading(mode, date=TODAY, expiry=LATER, f=F):
     return r
 
 
-# ---- stamps, stated by hand -----------------------------------------------------------------------------------------
+# ---- stamps, put together from stated words -----------------------------------------------------------------------------------------
 def st(mode, standing, outcomes, cause=0, step=3, status='0000', date=TODAY, f=F, expiry=LATER):
     """The 45 bytes, from stated words: mode, standing, cause, status word, step, six outcomes, date, FASC-N, expiry."""
     b = '%02X' % mode + {OPEN: '00', GRANTED: '01', REJECTED: '02'}[standing] + '%02X' % cause + status + '%02X' % step
@@ -284,9 +284,9 @@ example('mode 4, each needed kind previewed as yes on another FASC-N and then gi
 def none_given(mode, rows):
     """For each row (kind, its check, outcomes for yes, for no, for another card): three previews, then a stamp as before."""
     calls, now = reading(mode), st(mode, OPEN, READ[mode])
+    after_yes = GRANTED if mode == 2 else OPEN           # mode 2 needs no other verdict
     for kind, check, yes, no, other in rows:
-        last = GRANTED if mode == 2 else OPEN
-        calls += [preview(kind, YES, 45, F, st(mode, last, yes)), preview(kind, NO, 45, F, st(mode, REJECTED, no, check)),
+        calls += [preview(kind, YES, 45, F, st(mode, after_yes, yes)), preview(kind, NO, 45, F, st(mode, REJECTED, no, check)),
                   preview(kind, YES, 45, G, st(mode, REJECTED, other, check)), stamp(45, now)]
     return calls
 
@@ -450,7 +450,7 @@ example('mode 4, after an earlier no and an earlier other card the cause in a pr
         stamp(45, st(4, REJECTED, '112243', 5)))
 
 # =====================================================================================================================
-# D. Refused previews: the number, FF unchanged, a stamp after it that shows that nothing changed
+# D. Refused previews, and rooms: the number, FF unchanged, a stamp after it that shows that nothing changed
 # =====================================================================================================================
 example('refusal 4 before any open',
         refused(1, YES, 45, F, 4), stamp(45, 4),
@@ -608,7 +608,7 @@ example('order, all faults at once and then one fault less each time',
 # =====================================================================================================================
 # F. Previews everywhere in a list, and the same list without them
 # =====================================================================================================================
-TAGS = [0x30, 0x34, 0x35, 0x3E, 0xBC, 0xEE, 0x31, 0xFE]
+TAGS = [0x30, 0x34, 0x35, 0x3E, 0xBC, 0xEE, 0x31, 0xFE]         # fewer than there are, for the long lists
 PAIRS = []
 
 
@@ -630,7 +630,7 @@ def everywhere(label, *calls):
 
 P4 = [preview(1, YES, 45, F, 4), preview(0, 2, 0, NONE, 4)]
 P9 = [preview(1, YES, 45, F, 9)]
-P9N = [preview(4, NO, 46, G, 9)]
+P9N = [preview(4, NO, 46, G, 9)]                    # a no on another card, room 46
 P9S = [preview(3, NO, 2, F, 9)]                     # short, for the long lists: room 2
 
 # A signed object with all older elements: 4 + 27 + 6 + 6 + 11 + 18 + 10 + 5 + 2 = 89 bytes in 53 59
@@ -706,7 +706,7 @@ everywhere('mode 3 with a 6C in each step and a second open after a verdict',
            stamp(45, unread(1, OPEN, '111100', step=1, date=20240229)), fields())
 
 # =====================================================================================================================
-# G. Fields and commands on their own account
+# G. Fields and commands without previews
 # =====================================================================================================================
 EVERY_TAG = [0x30, 0x34, 0x35, 0x3E, 0xBC, 0xEE, 0x31, 0x32, 0x33, 0xFE]
 OLDER = dict(tEE=OLD_EE, t31=OLD_31, t32=OLD_32, t33=OLD_33)
@@ -822,8 +822,8 @@ def without_previews(texts):
 
 
 def put(name, lines):
-    """The lines of a file of crates/vectors, those of this program in place of the ones that are there, before the last three."""
-    path = HERE / name
+    """The lines of a file of crates/vectors, those of this program in place of all lines of calls that are there, before the last three."""
+    path = VECTORS / name
     old = path.read_text().split('\n')
     kept = [line for line in old if ': calls ' not in line]
     at = kept.index(next(line for line in kept if line.startswith('a line without a colon')))

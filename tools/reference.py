@@ -240,7 +240,7 @@ def opening_refusal(mode, date, aid):
 
 
 class Session:
-    """A session from an accepted opening; each call gives its refusal number, 0 for none."""
+    """A session from an accepted opening; each call gives its refusal number, 0 for none, command and preview beside it what they write."""
 
     def __init__(self, mode, date, aid):
         self.mode = mode
@@ -260,7 +260,7 @@ class Session:
         self.fields = {}                    # those that can be asked for, by tag, from their step's good end on
 
     def command(self, room=22):
-        """Refusal number and the bytes of the command."""
+        """Refusal number and the bytes of the command; 22 bytes, the longest command's, are what the gate program lends."""
         if self.step == 3 or self.reading_cause or self.outstanding is not None:
             return 5, b""
         if room < len(self.next_command):

@@ -8,11 +8,11 @@ use Rattle.common.specs.Refusal.{refusalOf}
 use Rattle.session.specs.Condition.{openConditions}
 use Rattle.session.specs.Operation.{dead, opened, openRefusal, openOf, commandOf, answerOf, verdictOf}
 use Rattle.session.specs.Reading.{Opening, begins, refusedBy, reading}
-use Rattle.session.specs.Promise.{Call, argumentsOf, Host, callNumber, History, finish, readingOf}
+use Rattle.session.specs.Promise.{Call, argumentsOf, Host, callNumber}
 use Rattle.session.specs.declared.state.Session.{Session}
 use Rattle.session.proofs.RefusedLaws.{answer-unchanged, verdict-unchanged, answer-dead, verdict-dead}
-use Rattle.session.proofs.RunLaws.{zero-or, number-is}
-use Rattle.session.proofs.PromiseLaws.{reached}
+use Rattle.session.proofs.RunLaws.{zero-or}
+use Rattle.session.proofs.PromiseLaws.{number-next}
 use Rattle.gate_lines.specs.Line.{GateLine, lineIn}
 use Rattle.gate_lines.specs.Gate.{Gate, gateAfter, commandRoom, fresh, replyBy, replyTo, replyText}
 use Rattle.gate_lines.specs.Run.{runLines, printed, output, commandCall, Since, sinceLine, since, withCalls, ReachedBy, Reached, numberFor, replyFor, printedFor, endFor, ReplyPromise}
@@ -21,10 +21,6 @@ use Rattle.gate_lines.proofs.AnswerLineLaws.{answer-line-number}
 use Rattle.gate_lines.proofs.RunLaws.{command-reached, refused-by-four, command-leaves, line-reaches, line-bytes, run-reaches, run-end}
 
 -- ---- a call made next
-
--- on the session of a history: the reading's number
-number-next : (h : History) (c : Call) → callNumber (finish h) c ≡ refusedBy (readingOf h) (argumentsOf c)
-number-next h c = let a = reached h in ap (λ (x : Host). callNumber x c) (a .same) ∙ number-is (readingOf h) (a .object) c (a .holds)
 
 pub number-reached : (o : Opening) (b : List ℕ) (cs : List Call) (g : Gate) (c : Call) → ReachedBy o b cs g
     → callNumber (record { session = g .session; object = g .object }) c ≡ refusedBy (reading (begins o) (map argumentsOf cs)) (argumentsOf c)

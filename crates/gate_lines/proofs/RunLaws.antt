@@ -16,7 +16,8 @@ use Rattle.session.specs.Reading.{Opening}
 use Rattle.session.specs.Finding.{finding, stampOf}
 use Rattle.session.specs.Promise.{Call, Host, hostAfter, Bytes, LentNow, History, finish, readingOf}
 use Rattle.session.specs.declared.state.Session.{Session}
-use Rattle.session.proofs.CallPromiseLaws.{extended, opening-begins}
+use Rattle.session.proofs.HistoryLaws.{extended}
+use Rattle.session.proofs.CallPromiseLaws.{opening-begins}
 use Rattle.session.proofs.RefusedLaws.{command-unchanged, answer-unchanged, verdict-unchanged, command-dead, answer-dead, verdict-dead, stamp-dead}
 use Rattle.session.proofs.StampLaws.{stamp-length}
 use Rattle.common.proofs.StoreLaws.{front-all}

@@ -1,4 +1,4 @@
--- The laws of this crate's definitions, from the general to the particular. A crate above cites PromiseLaws, and the clauses of the contracts.
+-- The laws of this crate's definitions, from the general to the particular. A crate above cites HistoryLaws and PromiseLaws, and the clauses of the contracts.
 -- FigureLaws: document 01's figures
 pub mod FigureLaws
 -- BytesLaws: lists of bytes

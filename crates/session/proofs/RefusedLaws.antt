@@ -1,4 +1,5 @@
--- A refused call changes nothing: for every session and every buffer, where the number is not 0 the session and the whole buffer are those that came in.
+-- A refused call changes nothing: for every session and every buffer, where the number is not 0 the session and the whole buffer are those that came in. Of a preview it is said
+-- in PreviewLaws.
 -- On the dead session every call is refused, by 4.
 -- Assumes nothing.
 use mathlib.Core.Path.{_≡_, refl}

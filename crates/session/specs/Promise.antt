@@ -318,7 +318,7 @@ pub record StampPromised (h : History) (before left : List ℕ) (r : Answered) :
 abbrev pub StampPromise : Session → List ℕ → List ℕ → Answered → Type 0
 StampPromise s before left r = (h : History) → s ≡ finish h .session → StampPromised h before left r
 
--- A preview says what that stamp says of the list with that verdict call at its end, which is a history too. The session stays.
+-- What a preview writes says of the list with that verdict call at its end, which is a history too, what a stamp says of its list. The session stays.
 pub record PreviewPromised (h : History) (s : Session) (kind yesNo : ℕ) (fascn before left : List ℕ) (r : Reply) : Type 0 where
   pub number : replyNumber r ≡ refusedBy (readingOf h) (Arguments.preview kind yesNo fascn (length before))
   pub bytes : left ≡ previewFor h kind yesNo fascn before

@@ -17,7 +17,8 @@ use Rattle.vectors.specs.declared.answer.calls.DirectCall.the-variants.{
 
 -- ---- how a line spells a call
 
--- One byte names the call, two bytes say how many bytes its arguments have, the high byte first, and those bytes follow. A byte past the end counts as 00.
+-- One byte names the call, two bytes say how many bytes its arguments have, the high byte first, and those bytes follow, or as many as there are. A byte asked for past the end
+-- counts as 00.
 abbrev pub directCall : ℕ → DirectCall
 directCall n =
     cond (eqb n 1) Open

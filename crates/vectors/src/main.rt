@@ -16,10 +16,11 @@ ghost use mathlib.Core.Path.{_≡_};
 ghost use Prim.Native.Nat.{_≤_};
 ghost use lib.ListN.{length, take};
 
-// The most bytes of a line and its 0A, and of the text of a block: an empty line gives 17 bytes for one, and only a line that asks for one field again and again gives more.
+// The most bytes of a line and its 0A, and of the text of a block: an empty line gives 17 bytes for one, a list of commands with a room of 64 at most 19. Only a list that asks for a
+// field again and again gives more.
 const BLOCK: usize = 65536;
 
-const TEXT: usize = 18 * BLOCK;
+const TEXT: usize = 20 * BLOCK;
 
 // How many bytes are held at the front of the block, and whether the program goes on.
 struct Held {
