@@ -31,25 +31,25 @@ extended h c s object l e = record { history = with-call h c l; opening = refl; 
 -- ---- previews taken out
 
 -- two lists that a host makes, the first with previews marked, and what is read of both
-record Alike (r : Reading) (h : Host) (ms : List Marked) : Type 0 where
+record Unaltered (r : Reading) (h : Host) (ms : List Marked) : Type 0 where
   same-host : runCalls h (allCalls ms) ≡ runCalls h (keptCalls ms)
   same-results : keptResults h ms ≡ results h (keptCalls ms)
   same-reading : reading r (map argumentsOf (allCalls ms)) ≡ reading r (map argumentsOf (keptCalls ms))
   lent-too : Lent h (allCalls ms) → Lent h (keptCalls ms)
 
-alike : (ms : List Marked) (r : Reading) (h : Host) → Alike r h ms
-alike [] r h = record { same-host = refl; same-results = refl; same-reading = refl; lent-too = λ l. l }
-alike (Marked.kept c ∷ ms) r h =
-    let a = alike ms (read r (argumentsOf c)) (hostAfter h c) in
+unaltered : (ms : List Marked) (r : Reading) (h : Host) → Unaltered r h ms
+unaltered [] r h = record { same-host = refl; same-results = refl; same-reading = refl; lent-too = λ l. l }
+unaltered (Marked.kept c ∷ ms) r h =
+    let a = unaltered ms (read r (argumentsOf c)) (hostAfter h c) in
     record { same-host = a .same-host; same-results = ap (λ (l : List Result). resultOf h c ∷ l) (a .same-results); same-reading = a .same-reading; lent-too = λ l. (l .0, a .lent-too (l .1)) }
-alike (Marked.removed kind yesNo fascn out ∷ ms) r h =
-    let a = alike ms r h in
+unaltered (Marked.removed kind yesNo fascn out ∷ ms) r h =
+    let a = unaltered ms r h in
     let stays : read r (Arguments.preview kind yesNo fascn (length out)) ≡ r = preview-reads r kind yesNo fascn (length out) in
     record { same-host = a .same-host; same-results = a .same-results; same-reading = ap (λ (q : Reading). reading q (map argumentsOf (allCalls ms))) stays ∙ a .same-reading; lent-too = λ l. a .lent-too (l .1) }
 
 pub previews-out : (h : History) (ms : List Marked) → allCalls ms ≡ h .calls → PreviewsOut h ms
 previews-out h ms e =
-    let a = alike ms (begins (h .opening)) (startHost h) in
+    let a = unaltered ms (begins (h .opening)) (startHost h) in
     record {
       history = record { opening = h .opening; good = h .good; object = h .object; calls = keptCalls ms; lent = a .lent-too (subst (Lent (startHost h)) (sym e) (h .lent)) };
       opening = refl;

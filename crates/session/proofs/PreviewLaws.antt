@@ -55,8 +55,8 @@ module _ (s : Session) (kind yesNo : ℕ) (fascn : List ℕ) where
   preview-not-taken out f = let e = ne-eqb (verdictRefusal s kind yesNo fascn) 0 f in rw (e, e)
 
   -- The number of the two calls is that of the conditions in their order.
-  pub preview-number : (out : List ℕ) → previewOf s kind yesNo fascn out .0 ≡ previewRefusal s kind yesNo fascn (length out)
-  preview-number out = go (eqb (verdictRefusal s kind yesNo fascn) 0) refl
+  pub two-calls-number : (out : List ℕ) → previewOf s kind yesNo fascn out .0 ≡ previewRefusal s kind yesNo fascn (length out)
+  two-calls-number out = go (eqb (verdictRefusal s kind yesNo fascn) 0) refl
     where
       go : (b : Bool) → eqb (verdictRefusal s kind yesNo fascn) 0 ≡ b → previewOf s kind yesNo fascn out .0 ≡ previewRefusal s kind yesNo fascn (length out)
       go true e = ap (λ (x : ℕ × List ℕ). x .0) (preview-taken out (eqb-true _ 0 e)) ∙ sym (preview-number-by (length out) ∙ rw e)
@@ -99,8 +99,8 @@ module _ (s : Session) (kind yesNo : ℕ) (fascn : List ℕ) where
       room-decides out e z r (stamp-refused (verdictTakenSession s kind yesNo fascn) out (r ∙ sym (stamp-on-taken (length out) (sym e ∙ z))) f)
 
 -- a buffer that 6 does not refuse has room for the stamp
-pub room-enough : (room : ℕ) {k : ℕ} → k ≡ refusalOf (stampConditions room) → k ≡ 0 → stampSize ≤ room
-room-enough room e z = ltb-false room stampSize (none-fit (stampConditions room) refl (sym e ∙ z) .0)
+pub stamp-has-room : (room : ℕ) {k : ℕ} → k ≡ refusalOf (stampConditions room) → k ≡ 0 → stampSize ≤ room
+stamp-has-room room e z = ltb-false room stampSize (none-fit (stampConditions room) refl (sym e ∙ z) .0)
 
 -- ---- in a reading
 

@@ -20,7 +20,7 @@ use Rattle.session.proofs.InRangeLaws.{in-range}
 use Rattle.session.proofs.CommandLaws.{command-gives, on-command}
 use Rattle.session.proofs.AnswerLaws.{takes-answer, answer-number, answer-accepts}
 use Rattle.session.proofs.VerdictLaws.{on-verdict, verdict-taken-session}
-use Rattle.session.proofs.PreviewLaws.{preview-number}
+use Rattle.session.proofs.PreviewLaws.{two-calls-number}
 use Rattle.session.proofs.BytesLaws.{part-bytes}
 
 -- ---- the number of a call
@@ -67,7 +67,7 @@ number-is r m (Call.answer object bytes cancelled) i = answer-refusal-is r m obj
 number-is r m (Call.verdict kind yesNo fascn) i = verdict-refused r m kind yesNo fascn i
 number-is r m (Call.field object tag) i = refl
 number-is r m (Call.stamp out) i = stamp-number r m (length out) i
-number-is r m (Call.preview kind yesNo fascn out) i = preview-number (session-of r) kind yesNo fascn out ∙ preview-refused r m kind yesNo fascn (length out) i
+number-is r m (Call.preview kind yesNo fascn out) i = two-calls-number (session-of r) kind yesNo fascn out ∙ preview-refused r m kind yesNo fascn (length out) i
 
 -- ---- what a call leaves
 

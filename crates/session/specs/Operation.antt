@@ -280,7 +280,7 @@ previewRefusal s kind yesNo fascn room =
     refusalOf ((4, outOfRange s) ∷ previewConditions (s .opening .mode) (s .progress .step) (s .outcomes) kind yesNo fascn room)
 
 -- "a verdict call on a copy of the session, followed by a stamp call": where the verdict call is accepted the number of the stamp call and the lent buffer as that leaves it; where
--- it is refused its number, and the buffer as it was. No session is handed back. The number is `previewRefusal` (`preview-number`, proofs/PreviewLaws.antt).
+-- it is refused its number, and the buffer as it was. No session is handed back. The number is `previewRefusal` (`two-calls-number`, proofs/PreviewLaws.antt).
 unfoldable pub previewOf : Session → ℕ → ℕ → List ℕ → List ℕ → ℕ × List ℕ
 previewOf s kind yesNo fascn out =
     let copy = verdictOf s kind yesNo fascn in

@@ -1,7 +1,7 @@
 -- `session::state::Session::preview` meets its contract: the verdict is refused, the room is, or the copy that has taken the verdict writes its stamp. Assumes nothing.
 use mathlib.Core.Path.{sym, _∙_}
 use borrow.Author.Needs.{needs}
-use Rattle.session.proofs.PreviewLaws.{verdict-refuses, room-accepts, room-refuses, room-enough}
+use Rattle.session.proofs.PreviewLaws.{verdict-refuses, room-accepts, room-refuses, stamp-has-room}
 use Rattle.session.proofs.CallPromiseLaws.{preview-all}
 use Rattle.session.proofs.state.Session.preview.Statement.{statement}
 use Rattle.session.proofs.state.Session.preview.Tie as tie
@@ -12,7 +12,7 @@ returns c =
     preview-all (a .self) (a .kind) (a .yes) (a .fascn .now) (a .out .now) _ _ (verdict-refuses (a .self) (a .kind) (a .yes) (a .fascn .now) (a .out .now) (c .before .before .verdict-refusal .ensures) (λ z. c .if1 .taken (c .before .number .ensures ∙ z)))
 
 write-stamp-requires : tie.Need-write-stamp-requires
-write-stamp-requires c κs = room-enough _ (c .before .before .before .before .room-refusal .ensures) (sym (c .before .before .before .number2 .ensures) ∙ c .before .before .if2 .taken)
+write-stamp-requires c κs = stamp-has-room _ (c .before .before .before .before .room-refusal .ensures) (sym (c .before .before .before .number2 .ensures) ∙ c .before .before .if2 .taken)
 
 returns-2 : tie.Need-returns-2
 returns-2 c =
