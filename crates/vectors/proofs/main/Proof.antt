@@ -7,4 +7,4 @@ use Rattle.vectors.proofs.main.Statement.{statement}
 use Rattle.vectors.proofs.main.Tie as tie
 
 pub main-spec : {M : Type 1} → statement M
-main-spec = tie.close (tie.spec (λ c. search needs) (λ c. sym (length-replicate {0} {A = ℕ} 1179648 0)) (λ c κs. search needs) (λ c. search needs))
+main-spec = tie.close (tie.spec (λ c. search needs) (λ c. sym (length-replicate {0} {A = ℕ} 1310720 0)) (λ c κs. search needs) (λ c. search needs))
