@@ -14,7 +14,7 @@ use Rattle.card.specs.Object.{objectTag}
 use Rattle.card.specs.Command.{withLast, selectBeside, selectBytes, getDataBytes, getResponseBytes, commandWritten, commandInto, aidLeast, aidMost, aidRefused, selectOf, getDataOf, getResponseOf, statusOf}
 use Rattle.card.specs.declared.command.Status.the-variants.{Other}
 use Rattle.card.specs.declared.object.Kind.{Kind}
-use Rattle.card.specs.declared.object.Kind.the-variants.{Signed, Unsigned, Fingers}
+use Rattle.card.specs.declared.object.Kind.the-variants.{Signed, Unsigned, Fingers, Picture}
 
 -- ---- the lengths of the commands
 
@@ -29,6 +29,7 @@ unfolding objectTag
 tag-length Signed = refl
 tag-length Unsigned = refl
 tag-length Fingers = refl
+tag-length Picture = refl
 
 -- GET DATA is eleven bytes
 pub get-data-length : (k : Kind) → length (getDataBytes k) ≡ 11

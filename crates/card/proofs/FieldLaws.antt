@@ -17,7 +17,7 @@ use Rattle.card.specs.ObjectCode.{layoutOf}
 use Rattle.card.specs.declared.tlv.Header.{Header}
 use Rattle.card.specs.declared.tlv.Header.the-variants.{Whole, Malformed}
 use Rattle.card.specs.declared.object.Kind.{Kind}
-use Rattle.card.specs.declared.object.Kind.the-variants.{Signed, Unsigned, Fingers}
+use Rattle.card.specs.declared.object.Kind.the-variants.{Signed, Unsigned, Fingers, Picture}
 use Rattle.card.specs.declared.object.Row.{Row}
 use Rattle.card.specs.declared.object.Layout.{Layout}
 use Rattle.card.specs.declared.object.Part.{Part}
@@ -83,6 +83,7 @@ unfolding layoutOf rowsOf
 laid-out Signed e = rw e (refl, refl, omega arith)
 laid-out Unsigned e = rw e (refl, refl, omega arith)
 laid-out Fingers e = rw e (refl, refl, omega arith)
+laid-out Picture e = rw e (refl, refl, omega arith)
 
 -- row i of a layout, which is the first n of some rows
 pub row-at : (rows : List Row) (n i : ℕ) (d : Row) {all : List Row} → take n rows ≡ all → length all ≡ n → i < n → drop i (take n rows) ≡ getD rows i d ∷ drop (i + 1) (take n rows)

@@ -12,7 +12,7 @@ use lib.Seq.{take-length, take-all, drop-at, drop-drop, getD-drop}
 use Rattle.card.specs.Tlv.{tagSize, headerOf, onlyFrom, onlyOf, tagBytes, isTag, lengthBytes, fitsForm, encoded}
 use Rattle.card.specs.Object.{dataObjectTag, rowTag, least, greatest, rowsOf, mostFields, part, empty, absent, fieldFrom, rowField, fieldsFrom, fieldsAnswer, objectFrom, objectOf, partIn, bytesAt, fieldValue, Made, no-rows, left-out, given, valueIn}
 use Rattle.card.specs.declared.object.Kind.{Kind}
-use Rattle.card.specs.declared.object.Kind.the-variants.{Signed, Unsigned, Fingers}
+use Rattle.card.specs.declared.object.Kind.the-variants.{Signed, Unsigned, Fingers, Picture}
 use Rattle.card.specs.declared.object.Row.{Row}
 use Rattle.card.specs.declared.object.Part.{Part}
 use Rattle.card.specs.declared.object.Field.{Field}
@@ -38,6 +38,7 @@ unfolding rowsOf isTag tagSize tagBytes
 rows-apart Signed = refl
 rows-apart Unsigned = refl
 rows-apart Fingers = refl
+rows-apart Picture = refl
 
 -- ---- the fields of any rows
 

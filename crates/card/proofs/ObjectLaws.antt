@@ -11,11 +11,11 @@ use lib.Dec.{eqb, leb}
 use lib.ListN.{length, take, drop, replicate, length-drop}
 use lib.Seq.{take-append-le, drop-append-le}
 use Rattle.card.specs.Tlv.{headerOf, onlyOf}
-use Rattle.card.specs.Object.{dataObjectTag, fascnTag, guidTag, expiryTag, signatureTag, fingersTag, mostFields, required, optional, empty, rowsOf, rowField, fieldsFrom, fieldsAnswer, objectFrom, objectOf, partIn, bytesAt, fieldPart, fieldValue, allowed, rowIn}
+use Rattle.card.specs.Object.{dataObjectTag, fascnTag, guidTag, expiryTag, signatureTag, biometricTag, mostFields, required, optional, empty, rowsOf, rowField, fieldsFrom, fieldsAnswer, objectFrom, objectOf, partIn, bytesAt, fieldPart, fieldValue, allowed, rowIn}
 use Rattle.card.specs.declared.tlv.Header.{Header}
 use Rattle.card.specs.declared.tlv.Header.the-variants.{Whole, Malformed}
 use Rattle.card.specs.declared.object.Kind.{Kind}
-use Rattle.card.specs.declared.object.Kind.the-variants.{Signed, Unsigned, Fingers}
+use Rattle.card.specs.declared.object.Kind.the-variants.{Signed, Unsigned, Fingers, Picture}
 use Rattle.card.specs.declared.object.Row.{Row}
 use Rattle.card.specs.declared.object.Part.{Part}
 use Rattle.card.specs.declared.object.Field.{Field}
@@ -225,6 +225,10 @@ pub unsigned-lengths : (s : List ℕ) → objectOf Unsigned s .0 ≡ 0 → (fiel
 unfolding rowIn rowsOf
 unsigned-lengths s p = (length-is Unsigned s fascnTag 25 refl p, length-is Unsigned s expiryTag 8 refl p)
 
-pub fingers-lengths : (s : List ℕ) → objectOf Fingers s .0 ≡ 0 → (1 ≤ fieldPart Fingers fingersTag s .len) × (fieldPart Fingers fingersTag s .len ≤ 862)
+pub fingers-lengths : (s : List ℕ) → objectOf Fingers s .0 ≡ 0 → (1 ≤ fieldPart Fingers biometricTag s .len) × (fieldPart Fingers biometricTag s .len ≤ 862)
 unfolding rowIn rowsOf
-fingers-lengths s p = length-between Fingers s fingersTag 1 862 refl p
+fingers-lengths s p = length-between Fingers s biometricTag 1 862 refl p
+
+pub picture-lengths : (s : List ℕ) → objectOf Picture s .0 ≡ 0 → (1 ≤ fieldPart Picture biometricTag s .len) × (fieldPart Picture biometricTag s .len ≤ 16000)
+unfolding rowIn rowsOf
+picture-lengths s p = length-between Picture s biometricTag 1 16000 refl p

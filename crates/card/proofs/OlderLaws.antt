@@ -14,7 +14,7 @@ use Rattle.common.specs.Lists.{isIn}
 use Rattle.card.specs.Tlv.{tagBytes, fitsForm, encoded}
 use Rattle.card.specs.Object.{dataObjectTag, bufferLengthTag, fascnTag, agencyTag, organizationTag, dunsTag, greatest, optional, firstRows, rowsOf, objectOf, fieldPart, fieldValue, rowIn, Made, no-rows, left-out, given, valueIn}
 use Rattle.card.specs.declared.object.Kind.{Kind}
-use Rattle.card.specs.declared.object.Kind.the-variants.{Signed, Unsigned, Fingers}
+use Rattle.card.specs.declared.object.Kind.the-variants.{Signed, Unsigned, Fingers, Picture}
 use Rattle.card.specs.declared.object.Row.{Row}
 use Rattle.card.proofs.EncoderLaws.{form-small}
 use Rattle.card.proofs.ObjectLaws.{length-or-none}
@@ -26,17 +26,18 @@ LengthOrNone n len = (len ≡ n) ⊎ (len ≡ 0)
 
 -- ---- in an object that is accepted
 
+-- an object without such a row has no such field
+no-older : (k : Kind) (s : List ℕ) → objectOf k s .0 ≡ 0 → (tag : ℕ) {n : ℕ} → rowIn (rowsOf k) tag ≡ optional tag 0 0 → LengthOrNone n (fieldPart k tag s .len)
+no-older k s p tag r = ⊎-elim inr inr (length-or-none k s tag 0 r p)
+
 -- the four lengths
 pub older-lengths : (k : Kind) (s : List ℕ) → objectOf k s .0 ≡ 0
     → LengthOrNone 2 (fieldPart k bufferLengthTag s .len) × LengthOrNone 4 (fieldPart k agencyTag s .len) × LengthOrNone 4 (fieldPart k organizationTag s .len) × LengthOrNone 9 (fieldPart k dunsTag s .len)
 unfolding rowIn rowsOf
 older-lengths Signed s p = (length-or-none Signed s bufferLengthTag 2 refl p, length-or-none Signed s agencyTag 4 refl p, length-or-none Signed s organizationTag 4 refl p, length-or-none Signed s dunsTag 9 refl p)
 older-lengths Unsigned s p = (length-or-none Unsigned s bufferLengthTag 2 refl p, length-or-none Unsigned s agencyTag 4 refl p, length-or-none Unsigned s organizationTag 4 refl p, length-or-none Unsigned s dunsTag 9 refl p)
-older-lengths Fingers s p = (none bufferLengthTag refl, none agencyTag refl, none organizationTag refl, none dunsTag refl)
-  where
-    -- an object without such a row has no such field
-    none : (tag : ℕ) {n : ℕ} → rowIn (rowsOf Fingers) tag ≡ optional tag 0 0 → LengthOrNone n (fieldPart Fingers tag s .len)
-    none tag r = ⊎-elim inr inr (length-or-none Fingers s tag 0 r p)
+older-lengths Fingers s p = (no-older Fingers s p bufferLengthTag refl, no-older Fingers s p agencyTag refl, no-older Fingers s p organizationTag refl, no-older Fingers s p dunsTag refl)
+older-lengths Picture s p = (no-older Picture s p bufferLengthTag refl, no-older Picture s p agencyTag refl, no-older Picture s p organizationTag refl, no-older Picture s p dunsTag refl)
 
 -- ---- what is made for rows is not long
 
@@ -71,6 +72,7 @@ made-fits k {v} m = let h = made-most m in lt-ltb (length v) 65536 (omega (arith
     rows-most Signed = omega arith
     rows-most Unsigned = omega arith
     rows-most Fingers = omega arith
+    rows-most Picture = omega arith
 
 -- ---- another choice of the four
 

@@ -1,4 +1,4 @@
--- Data objects (document 01, section Objects, with request 5 of document 02): "A data object is one TLV with tag 53 and nothing after; its value holds one-byte-tag fields,
+-- Data objects (document 01, section Objects, with requests 5 and 7 of document 02): "A data object is one TLV with tag 53 and nothing after; its value holds one-byte-tag fields,
 -- each once, in this order". Fields are not opened further.
 -- Assumes nothing.
 use mathlib.Core.Path.{_≡_}
@@ -13,7 +13,7 @@ use Rattle.card.specs.Tlv.{headerOf, onlyOf, fitsForm, encoded}
 use Rattle.card.specs.declared.tlv.Header.{Header}
 use Rattle.card.specs.declared.tlv.Header.the-variants.{Whole, Malformed}
 use Rattle.card.specs.declared.object.Kind.{Kind}
-use Rattle.card.specs.declared.object.Kind.the-variants.{Signed, Unsigned, Fingers}
+use Rattle.card.specs.declared.object.Kind.the-variants.{Signed, Unsigned, Fingers, Picture}
 use Rattle.card.specs.declared.object.Row.{Row}
 use Rattle.card.specs.declared.object.Part.{Part}
 use Rattle.card.specs.declared.object.Field.{Field}
@@ -59,9 +59,9 @@ expiryTag = 0x35
 abbrev pub signatureTag : ℕ
 signatureTag = 0x3E
 
--- "BC (1 to 862)": the finger templates
-abbrev pub fingersTag : ℕ
-fingersTag = 0xBC
+-- "BC (1 to 862)": the finger templates of DFC103; "BC (1 to 16,000 bytes)": the facial image of DFC108
+abbrev pub biometricTag : ℕ
+biometricTag = 0xBC
 
 -- "FE (0)": the error detection code, which ends an object
 abbrev pub endTag : ℕ
@@ -103,10 +103,12 @@ firstRows =
 -- 5FC102, signed: 30 (25 bytes), 34 (16), 35 (8), 3E (1 to 2,816), FE (0).
 -- 5FC104, unsigned (layout fixed here): 30 (25), 34 (16, may be absent), 35 (8), FE (0).
 -- DFC103, fingers: BC (1 to 862), FE (0, may be absent).
+-- "a facial image, object DFC108: BC (1 to 16,000 bytes), then FE (0 bytes, may be absent)" (document 02, request 7).
 unfoldable pub rowsOf : Kind → List Row
 rowsOf Signed = firstRows ++ (required guidTag 16 16 ∷ required expiryTag dateDigits dateDigits ∷ required signatureTag 1 2816 ∷ required endTag 0 0 ∷ [])
 rowsOf Unsigned = firstRows ++ (optional guidTag 16 16 ∷ required expiryTag dateDigits dateDigits ∷ required endTag 0 0 ∷ [])
-rowsOf Fingers = required fingersTag 1 862 ∷ optional endTag 0 0 ∷ []
+rowsOf Fingers = required biometricTag 1 862 ∷ optional endTag 0 0 ∷ []
+rowsOf Picture = required biometricTag 1 16000 ∷ optional endTag 0 0 ∷ []
 
 -- The most fields that an object has. A layout has as many rows, and an answer as many parts.
 abbrev pub mostFields : ℕ
@@ -117,6 +119,7 @@ unfoldable pub objectTag : Kind → List ℕ
 objectTag Signed = 0x5F ∷ 0xC1 ∷ 0x02 ∷ []
 objectTag Unsigned = 0x5F ∷ 0xC1 ∷ 0x04 ∷ []
 objectTag Fingers = 0xDF ∷ 0xC1 ∷ 0x03 ∷ []
+objectTag Picture = 0xDF ∷ 0xC1 ∷ 0x08 ∷ []
 
 -- ---- the fields
 

@@ -71,6 +71,7 @@ fn object_tag(kind: Kind) -> [u8; 3]
         Kind::Signed => [0x5F, 0xC1, 0x02],
         Kind::Unsigned => [0x5F, 0xC1, 0x04],
         Kind::Fingers => [0xDF, 0xC1, 0x03],
+        Kind::Picture => [0xDF, 0xC1, 0x08],
     }
 }
 

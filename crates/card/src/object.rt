@@ -1,4 +1,4 @@
-// Data objects (document 01, section Objects, with request 5 of document 02): one TLV 53, whose value holds one-byte-tag fields, each once, in the order of the object's rows.
+// Data objects (document 01, section Objects, with requests 5 and 7 of document 02): one TLV 53, whose value holds one-byte-tag fields, each once, in the order of the object's rows.
 use crate::date::DATE_DIGITS;
 use crate::fascn::counts::FASCN_BYTES;
 use crate::tlv;
@@ -9,17 +9,18 @@ ghost use mathlib.Core.List.{[], _∷_};
 ghost use Prim.Native.Nat.{_+_, _≤_, _<_, _^_};
 ghost use lib.ListN.{length};
 ghost use Rattle.card.specs.Object.{rowsOf, rowField, fieldsFrom, fieldsAnswer, objectNumber, objectAnswer, objectOf, partIn};
-ghost use Rattle.card.specs.ObjectCode.{afterFirst, layoutOf};
+ghost use Rattle.card.specs.ObjectCode.{afterFirst, biometricLayout, layoutOf};
 
-// The objects that a reading asks for: 5FC102, 5FC104 and DFC103.
+// The objects that a reading asks for: 5FC102, 5FC104, DFC103 and DFC108.
 pub enum Kind {
     Signed,
     Unsigned,
     Fingers,
+    Picture,
 }
 
 // The tag of a data object, and those of its fields: the buffer length, the FASC-N, the agency code, the organization identifier, the issuer's DUNS number, the GUID, the
-// expiry date, the issuer's signature and the finger templates. In the definitions they are `dataObjectTag`, `bufferLengthTag` and so on.
+// expiry date, the issuer's signature, and the finger templates or the facial image. In the definitions they are `dataObjectTag`, `bufferLengthTag` and so on.
 pub const DATA_OBJECT_TAG: usize = 0x53;
 
 pub const BUFFER_LENGTH_TAG: u8 = 0xEE;
@@ -38,7 +39,7 @@ pub const EXPIRY_TAG: u8 = 0x35;
 
 pub const SIGNATURE_TAG: u8 = 0x3E;
 
-pub const FINGERS_TAG: u8 = 0xBC;
+pub const BIOMETRIC_TAG: u8 = 0xBC;
 
 // The error detection code, which is empty and ends an object.
 pub const END_TAG: u8 = 0xFE;
@@ -137,6 +138,26 @@ fn after_first(n: usize, sixth: Row, seventh: Row, eighth: Row, ninth: Row) -> L
     }
 }
 
+// The layout of an object that has the field BC, of at most so many bytes, and after it FE, which may be absent.
+fn biometric(most: usize) -> Layout
+    ensures { λ r. ⌜ r ≡ biometricLayout most ⌝ }
+{
+    Layout {
+        n: 2,
+        rows: [
+            Row(BIOMETRIC_TAG, 1, most, false),
+            Row(END_TAG, 0, 0, true),
+            NONE,
+            NONE,
+            NONE,
+            NONE,
+            NONE,
+            NONE,
+            NONE,
+        ],
+    }
+}
+
 // The rows of an object, in the papers' order, filled up with NONE.
 fn layout_of(kind: Kind) -> Layout
     ensures { λ r. ⌜ r ≡ layoutOf kind ⌝ }
@@ -150,20 +171,8 @@ fn layout_of(kind: Kind) -> Layout
             END,
         ),
         Kind::Unsigned => after_first(8, Row(GUID_TAG, 16, 16, true), EXPIRY, END, NONE),
-        Kind::Fingers => Layout {
-            n: 2,
-            rows: [
-                Row(FINGERS_TAG, 1, 862, false),
-                Row(END_TAG, 0, 0, true),
-                NONE,
-                NONE,
-                NONE,
-                NONE,
-                NONE,
-                NONE,
-                NONE,
-            ],
-        },
+        Kind::Fingers => biometric(862),
+        Kind::Picture => biometric(16000),
     }
 }
 

@@ -13,7 +13,7 @@ use Rattle.common.specs.Lists.{overPlaces}
 use Rattle.card.specs.Command.{statusOf}
 use Rattle.card.specs.declared.command.Status.{Status}
 use Rattle.card.specs.declared.command.Status.the-variants.{Done, More, Again, Other}
-use Rattle.session.specs.Tables.{statusCause, baseOf, capacity, objectSize, NextCommand, joinedCause, statusShown}
+use Rattle.session.specs.Tables.{Figures, statusCause, baseOf, capacity, objectSize, NextCommand, joinedCause, statusShown}
 use Rattle.session.specs.Condition.{answerConditions}
 use Rattle.session.specs.Reading.{Found, Reading, withProgress, answerRefused, stopped, continued, judged, appended, causeBy, answerTaken}
 use Rattle.session.specs.Ranges.{causeInRange}
@@ -49,6 +49,7 @@ stops r m m′ xs k sw1 sw2 i l lt small b held c p q =
       object = m′;
       same = refl;
       holds = record {
+        figures = i .figures;
         opening = i .opening;
         progress-good = record { step = i .progress-good .step; filled = small; cause = c; outstanding = refl; no-cause = λ e. absurd (omega arith); shown1 = p; shown2 = q; bytes = b };
         held = held;
@@ -121,6 +122,7 @@ module _ (r : Reading) (m xs : List ℕ) (i : Invariant r m) (size : length m �
         object = overPlaces m (base + length old) xs;
         same = rw length-append;
         holds = record {
+          figures = i .figures;
           opening = i .opening;
           progress-good = record { step = i .progress-good .step; filled = rw length-append fits; cause = refl; outstanding = refl; no-cause = λ e. refl; shown1 = refl; shown2 = refl; bytes = append-bytes old xs (i .progress-good .bytes) bytes };
           held = new-held;
@@ -168,7 +170,7 @@ takes-answer r m xs status cancelled i size lt b =
 
 pub answer-number : (r : Reading) (m : List ℕ) (size n : ℕ) → Invariant r m → answerRefusal (session-of r) size n ≡ answerRefused r size n
 unfolding answerRefusal answerRefused
-answer-number r m size n i = rw (in-range r m i)
+answer-number r m size n i = rw (in-range r m i, i .figures)
 
 -- what is known where it is accepted
 pub record Accepts (r : Reading) (size : ℕ) : Type 0 where
@@ -179,10 +181,10 @@ pub record Accepts (r : Reading) (size : ℕ) : Type 0 where
 pub answer-accepts : (r : Reading) (m : List ℕ) (size n : ℕ) → Invariant r m → answerRefused r size n ≡ 0 → Accepts r size
 unfolding answerRefused
 answer-accepts r m size n i e =
-    let c = none-fit (answerConditions (r .progress .outstanding) size n) refl e in
+    let c = none-fit (answerConditions (r .figures) (r .progress .outstanding) size n) refl e in
     let out = open-steps (r .progress .outstanding) (leb (r .progress .step) 2 && eqb (r .progress .cause) 0) (not-false _ (c .0)) (i .progress-good .outstanding) in
     let low : r .progress .step ≤ 2 = leb-true _ 2 (and-left (leb (r .progress .step) 2) _ out) in
-    record { whole = eqb-true size objectSize (not-false _ (c .1 .0)); below = omega arith; causeless = eqb-true _ 0 (and-right (leb (r .progress .step) 2) _ out) }
+    record { whole = eqb-true size (r .figures .objectSize) (not-false _ (c .1 .0)) ∙ ap (λ (f : Figures). f .objectSize) (i .figures); below = omega arith; causeless = eqb-true _ 0 (and-right (leb (r .progress .step) 2) _ out) }
   where
     open-steps : (a b : Bool) → a ≡ true → not a || b ≡ true → b ≡ true
     open-steps true b p q = q

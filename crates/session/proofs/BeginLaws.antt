@@ -8,7 +8,7 @@ use native.Mathlib.Omega.{arith}
 use lib.Dec.{leb}
 use lib.ListN.{length, getD}
 use Rattle.common.proofs.ListsLaws.{all-of, length-listOf, getD-listOf}
-use Rattle.session.specs.Tables.{checks, goodKind, needs, checkServed, outcomeOf, neededAt, neededOutcomes}
+use Rattle.session.specs.Tables.{since, checks, goodKind, needs, checkServed, outcomeOf, neededAt, neededOutcomes}
 use Rattle.session.specs.Ranges.{outcomesInRange}
 use Rattle.session.specs.Reading.{Opening, begins}
 use Rattle.session.specs.Finding.{verdictOn}
@@ -17,34 +17,35 @@ use Rattle.common.proofs.TestLaws.{either}
 use Rattle.session.proofs.Invariant.{Stage, VerdictGave, Invariant}
 use Rattle.session.proofs.OutcomeLaws.{place-of, placed}
 
-needed-at : (mode i : ℕ) → i < checks → getD (neededOutcomes mode) i 0 ≡ cond (needs mode (i + 1)) 1 0
+needed-at : (mode i : ℕ) → i < checks → getD (neededOutcomes since mode) i 0 ≡ cond (needs mode (i + 1)) 1 0
 unfolding neededOutcomes neededAt
 needed-at mode i h = getD-listOf checks (neededAt mode) i h
 
-needed-small : (mode : ℕ) → outcomesInRange (neededOutcomes mode) ≡ true
+needed-small : (mode : ℕ) → outcomesInRange (neededOutcomes since mode) ≡ true
 unfolding outcomesInRange
 needed-small mode =
-    all-of (λ i. leb (getD (neededOutcomes mode) i 0) 4) checks
+    all-of (λ i. leb (getD (neededOutcomes since mode) i 0) 4) checks
     (λ i h. rw (needed-at mode i h) (either (λ (v : ℕ). leb v 4 ≡ true) (needs mode (i + 1)) {x = 1} {y = 0} refl refl))
 
-needed-six : (mode : ℕ) → length (neededOutcomes mode) ≡ checks
+needed-counted : (mode : ℕ) → length (neededOutcomes since mode) ≡ checks
 unfolding neededOutcomes
-needed-six mode = length-listOf checks (neededAt mode)
+needed-counted mode = length-listOf checks (neededAt mode)
 
-awaiting : (mode kind : ℕ) (own : List ℕ) → goodKind kind ≡ true → VerdictGave kind (needs mode (checkServed kind)) own (verdictOn kind []) (outcomeOf (neededOutcomes mode) (checkServed kind))
+awaiting : (mode kind : ℕ) (own : List ℕ) → goodKind since kind ≡ true → VerdictGave kind (needs mode (checkServed kind)) own (verdictOn kind []) (outcomeOf (neededOutcomes since mode) (checkServed kind))
 unfolding verdictOn
 awaiting mode kind own g =
     let p = placed kind g in
     VerdictGave.awaiting refl (rw (p .next) at (needed-at mode (place-of kind) (p .low)))
 
-pub begins-holds : (o : Opening) (m : List ℕ) → goodOpening o ≡ true → Invariant (begins o) m
+pub begins-holds : (o : Opening) (m : List ℕ) → goodOpening since o ≡ true → Invariant (begins since o) m
 begins-holds o m e =
     record {
+      figures = refl;
       opening = e;
       progress-good = record { step = refl; filled = omega arith; cause = refl; outstanding = refl; no-cause = λ z. refl; shown1 = refl; shown2 = refl; bytes = λ i. omega arith };
       held = refl;
       one = tt;
       two = tt;
       stage = Stage.early (omega arith) refl;
-      judged = record { six = needed-six (o .mode); small = needed-small (o .mode); verdicts = λ kind g. awaiting (o .mode) kind _ g; expiry = tt; list = tt };
+      judged = record { counted = needed-counted (o .mode); small = needed-small (o .mode); verdicts = λ kind g. awaiting (o .mode) kind _ g; expiry = tt; list = tt };
     }

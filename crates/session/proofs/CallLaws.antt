@@ -14,7 +14,7 @@ use Rattle.card.specs.Object.{bytesAt}
 use Rattle.card.specs.declared.object.Part.{Part}
 use Rattle.card.specs.Command.{aidMost}
 use Rattle.card.proofs.CommandLaws.{aid-most}
-use Rattle.session.specs.Tables.{objectSize, baseOf, stepRead, stepOfTag, statusSize, answerMost, dataOf, statusBytes, stampSize}
+use Rattle.session.specs.Tables.{since, objectSize, baseOf, stepRead, stepOfTag, statusSize, answerMost, dataOf, statusBytes, stampSize}
 use Rattle.session.specs.Condition.{openConditions, answerConditions, fieldRefused, stampConditions}
 use Rattle.session.specs.Ranges.{inRange, outOfRange}
 use Rattle.session.specs.Operation.{openRefusal, answerRefusal, answerTakenSession, answerTakenBuffer, answerOf, answerBuffer, stampIn, stampRefusal, stampBuffer, partFor, fieldOf}
@@ -44,7 +44,7 @@ refuses y e f p = rw (some e f, e, p)
 -- an opening that is not refused has an AID that is not too long
 pub open-fits : (mode date : ℕ) (aid : List ℕ) → openRefusal mode date aid ≡ 0 → length aid ≤ aidMost
 unfolding openRefusal
-open-fits mode date aid e = aid-most aid (none-fit (openConditions mode date aid) refl e .1 .1 .0)
+open-fits mode date aid e = aid-most aid (none-fit (openConditions since mode date aid) refl e .1 .1 .0)
 
 -- ---- answer
 
@@ -58,7 +58,7 @@ pub record Fitting (s : Session) (size n : ℕ) : Type 0 where
 pub answer-fits : (s : Session) (size n : ℕ) → answerRefusal s size n ≡ 0 → Fitting s size n
 unfolding answerRefusal
 answer-fits s size n e =
-    let c = none-fit ((4, outOfRange s) ∷ answerConditions (s .progress .outstanding) size n) refl e in
+    let c = none-fit ((4, outOfRange s) ∷ answerConditions since (s .progress .outstanding) size n) refl e in
     let h = not-false (leb statusSize n && leb n answerMost) (c .1 .1 .1 .0) in
     record { range = not-false _ (c .0); whole = eqb-true size objectSize (not-false _ (c .1 .1 .0)); least = leb-true statusSize n (and-left (leb statusSize n) (leb n answerMost) h); most = leb-true n answerMost (and-right (leb statusSize n) (leb n answerMost) h) }
 
@@ -76,12 +76,12 @@ answer-refused s object bytes cancelled e f =
 -- ---- field
 
 -- one of the tests fits
-pub field-refused : (s : Session) (object : List ℕ) (tag : ℕ) → outOfRange s || fieldRefused (s .opening .mode) (s .progress .step) (length object) tag ≡ true → [] ≡ fieldOf s object tag
+pub field-refused : (s : Session) (object : List ℕ) (tag : ℕ) → outOfRange s || fieldRefused since (s .opening .mode) (s .progress .step) (length object) tag ≡ true → [] ≡ fieldOf s object tag
 unfolding fieldOf
 field-refused s object tag e = rw e
 
 -- none fits: the session is in range, and the buffer has its size
-pub field-accepted : (s : Session) (n tag : ℕ) → outOfRange s || fieldRefused (s .opening .mode) (s .progress .step) n tag ≡ false → (inRange s ≡ true) × (n ≡ objectSize)
+pub field-accepted : (s : Session) (n tag : ℕ) → outOfRange s || fieldRefused since (s .opening .mode) (s .progress .step) n tag ≡ false → (inRange s ≡ true) × (n ≡ objectSize)
 field-accepted s n tag e =
     let other = eqb (stepOfTag tag) 0 || not (stepRead (s .opening .mode) (s .progress .step) (stepOfTag tag)) in
     let sized = not (eqb n objectSize) in (
@@ -89,7 +89,7 @@ field-accepted s n tag e =
       eqb-true n objectSize (not-false (eqb n objectSize) (or-left sized other (or-right (outOfRange s) (sized || other) e))),
     )
 
-pub field-read : (s : Session) (object : List ℕ) (tag : ℕ) → outOfRange s || fieldRefused (s .opening .mode) (s .progress .step) (length object) tag ≡ false
+pub field-read : (s : Session) (object : List ℕ) (tag : ℕ) → outOfRange s || fieldRefused since (s .opening .mode) (s .progress .step) (length object) tag ≡ false
     → let step = stepOfTag tag in bytesAt (drop (baseOf step) object) (partFor s step tag) ≡ fieldOf s object tag
 unfolding fieldOf
 field-read s object tag e = rw e
@@ -102,9 +102,9 @@ part-in-buffer object base p = rw (add-sub-cancel-left, drop-drop)
 -- ---- stamp
 
 -- a stamp that is not refused has room
-pub stamp-fits : (s : Session) (room : ℕ) → stampRefusal s room ≡ 0 → stampSize ≤ room
+pub stamp-fits : (s : Session) (room : ℕ) → stampRefusal s room ≡ 0 → stampSize since ≤ room
 unfolding stampRefusal
-stamp-fits s room e = ltb-false room stampSize (none-fit ((4, outOfRange s) ∷ stampConditions room) refl e .1 .0)
+stamp-fits s room e = ltb-false room (stampSize since) (none-fit ((4, outOfRange s) ∷ stampConditions since room) refl e .1 .0)
 
 pub stamp-accepted : (s : Session) (out : List ℕ) {k : ℕ} {left : List ℕ} → k ≡ stampRefusal s (length out) → k ≡ 0 → left ≡ overFront (stampIn s) out → left ≡ stampBuffer s out
 unfolding stampBuffer

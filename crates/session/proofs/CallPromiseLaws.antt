@@ -13,7 +13,7 @@ use lib.Seq.{take-at}
 use Rattle.common.specs.Lists.{overFront}
 use Rattle.card.specs.Date.{realDate}
 use Rattle.common.proofs.ListsLaws.{front-at}
-use Rattle.session.specs.Tables.{modeOpens, stampSize}
+use Rattle.session.specs.Tables.{since, modeOpens, stampSize}
 use Rattle.session.specs.Condition.{openConditions}
 use Rattle.session.specs.Reading.{Arguments, refusedBy}
 use Rattle.session.specs.Finding.{finding, stampOf}
@@ -34,11 +34,11 @@ use Rattle.session.proofs.PromiseLaws.{reached, number-next, promise}
 -- ---- open
 
 -- an opening that no condition fits is good
-opening-good : (mode date : ℕ) (aid : List ℕ) → openRefusal mode date aid ≡ 0 → goodOpening (record { mode = mode; date = date; aid = aid }) ≡ true
+opening-good : (mode date : ℕ) (aid : List ℕ) → openRefusal mode date aid ≡ 0 → goodOpening since (record { mode = mode; date = date; aid = aid }) ≡ true
 unfolding openRefusal
 opening-good mode date aid e =
-    let c = none-fit (openConditions mode date aid) refl e in
-    and-both (and-both (opens-in-range mode (not-false (modeOpens mode) (c .0))) (not-false (realDate date) (c .1 .0))) (rw (c .1 .1 .0))
+    let c = none-fit (openConditions since mode date aid) refl e in
+    and-both (and-both (opens-in-range mode (not-false (modeOpens since mode) (c .0))) (not-false (realDate date) (c .1 .0))) (rw (c .1 .1 .0))
 
 -- it begins a history, with any object buffer
 pub opening-begins : (mode date : ℕ) (aid object : List ℕ) → openRefusal mode date aid ≡ 0 → OpenedBy (record { mode = mode; date = date; aid = aid }) (opened mode date aid) object
@@ -136,10 +136,10 @@ left-side x e (to, back) = (λ p. to (sym e ∙ p), λ g. e ∙ back g)
 says : (h : History) (before left : List ℕ) → left ≡ overFront (stampOf (finding (readingOf h))) before → StampSays (readingOf h) left
 says h before left written =
     let f = finding (readingOf h) in
-    let size : length (stampOf f) ≡ stampSize = stamp-length (readingOf h) (reached h .object) (reached h .holds) in
+    let size : length (stampOf f) ≡ stampSize since = stamp-length (readingOf h) (reached h .object) (reached h .holds) in
     record {
       granted = left-side (getD left 1 0) (ap (λ (l : List ℕ). getD l 1 0) written ∙ front-at (stampOf f) before 1 (omega (arith, size, stamp-long)) ∙ stamp-second f) (promise h .granted);
-      apart = λ u. left-side (take stampSize left) (ap (take stampSize) written ∙ front-take stampSize (stampOf f) before size) (promise h .apart u);
+      apart = λ u. left-side (take (stampSize since) left) (ap (take (stampSize since)) written ∙ front-take (stampSize since) (stampOf f) before size) (promise h .apart u);
     }
 
 -- a call that is not refused has written

@@ -66,4 +66,4 @@ unfolding commandRefused
 on-command r m room i e =
     let c = r .progress in
     let free = none-fit (commandConditions (c .step) (c .cause) (c .outstanding) room (length (nextCommand r))) refl e .0 in
-    record { opening = i .opening; progress-good = sending-progress (r .opening .mode) c (i .progress-good) free; held = i .held; one = i .one; two = i .two; stage = i .stage; judged = i .judged }
+    record { figures = i .figures; opening = i .opening; progress-good = sending-progress (r .opening .mode) c (i .progress-good) free; held = i .held; one = i .one; two = i .two; stage = i .stage; judged = i .judged }

@@ -14,7 +14,7 @@ use Rattle.card.specs.Command.{selectBytes, getDataBytes, getResponseBytes, wit
 use Rattle.card.specs.declared.command.Status.{Status}
 use Rattle.card.specs.declared.command.Status.the-variants.{Done, More, Again, Other}
 use Rattle.card.proofs.CommandLaws.{before-last, status-other}
-use Rattle.session.specs.Tables.{statusCause, ends, kindAt, capacity, NextCommand, commandBytes, isResponse, isSentAgain, dataOf, statusBytes, ruleCause, joinedCause}
+use Rattle.session.specs.Tables.{Figures, statusCause, ends, kindAt, capacity, NextCommand, commandBytes, isResponse, isSentAgain, dataOf, statusBytes, ruleCause, joinedCause}
 use Rattle.session.specs.Reading.{Opening, Arguments, Reading, begins, withProgress, nextCommand, sending, commandRefused, answerRefused, verdictRefused, verdictTaken, stopped, continued, goodEnd, judged, appended, causeBy, answerTaken, refusedBy, read, reading, takes}
 use Rattle.session.specs.Operation.{placeOf, causeIn, answerTakenBuffer}
 use Rattle.session.specs.declared.state.Session.{Session}
@@ -96,8 +96,8 @@ list-last [] r before m = m
 list-last (t ∷ ts) r before m = list-last ts (read r t) (cond (takes r t) (statusIn t) before) (call-last r t before m)
 
 -- "straight after": as long as the reading has not ended, the next command is one sent again exactly where the answer taken last was a 6C
-pub after-answer : (o : Opening) (ts : List Arguments) → let r = reading (begins o) ts in ends (r .progress .cause) ≡ false → isSentAgain (r .progress .next) ≡ isAgain (lastStatus Done (begins o) ts)
-after-answer o ts = list-last ts (begins o) Done (λ _. refl)
+pub after-answer : (f : Figures) (o : Opening) (ts : List Arguments) → let r = reading (begins f o) ts in ends (r .progress .cause) ≡ false → isSentAgain (r .progress .next) ≡ isAgain (lastStatus Done (begins f o) ts)
+after-answer f o ts = list-last ts (begins f o) Done (λ _. refl)
 
 -- ---- the command that is sent again
 
@@ -121,28 +121,28 @@ corrected-command r joined last = refl
 
 -- ---- what a 6C does
 
-module _ (o : Opening) (ts : List Arguments) (size last : ℕ) (cancelled : List ℕ) where
+module _ (f : Figures) (o : Opening) (ts : List Arguments) (size last : ℕ) (cancelled : List ℕ) where
   -- the reading, and whether the answer taken last was a 6C
   abbrev r : Reading
-  r = reading (begins o) ts
+  r = reading (begins f o) ts
 
   abbrev after : Bool
-  after = isAgain (lastStatus Done (begins o) ts)
+  after = isAgain (lastStatus Done (begins f o) ts)
 
   after-taken : (n : ℕ) → answerRefused r size n ≡ 0 → isSentAgain (r .progress .next) ≡ after
-  after-taken n e = after-answer o ts (countable-all o ts .sent (taken-sent r size n e) .1)
+  after-taken n e = after-answer f o ts (countable-all f o ts .sent (taken-sent r size n e) .1)
 
   -- a 6C without data: nothing is appended, and the command is to be sent again
   pub first-6C : answerRefused r size 2 ≡ 0 → after ≡ false
       → read r (Arguments.answer size (0x6C ∷ last ∷ []) cancelled) ≡ withProgress r (continued (r .progress) (r .progress .joined) (NextCommand.again (r .progress .next) last))
   unfolding read answerTaken ruleCause statusOf sameBytes all
-  first-6C e f =
-      let m = countable-all o ts .small in
-      rw (e, after-taken 2 e, f, le-ltb (capacity (r .opening .mode) (r .progress .step)) (length (r .progress .joined) + 0) (omega (arith, m)), append-nil)
+  first-6C e x =
+      let m = countable-all f o ts .small in
+      rw (e, after-taken 2 e, x, le-ltb (capacity (r .opening .mode) (r .progress .step)) (length (r .progress .joined) + 0) (omega (arith, m)), append-nil)
 
   -- "makes the next command the same one with its last byte replaced by the second status byte"
   pub first-6C-sends : answerRefused r size 2 ≡ 0 → after ≡ false → nextCommand (read r (Arguments.answer size (0x6C ∷ last ∷ []) cancelled)) ≡ withLast (nextCommand r) last
-  first-6C-sends e f = rw (first-6C e f) (corrected-command r (r .progress .joined) last)
+  first-6C-sends e x = rw (first-6C e x) (corrected-command r (r .progress .joined) last)
 
   -- "It counts as taken."
   pub taken-6C : answerRefused r size 2 ≡ 0 → takes r (Arguments.answer size (0x6C ∷ last ∷ []) cancelled) ≡ true
@@ -152,11 +152,11 @@ module _ (o : Opening) (ts : List Arguments) (size last : ℕ) (cancelled : List
   pub second-6C : answerRefused r size 2 ≡ 0 → after ≡ true
       → read r (Arguments.answer size (0x6C ∷ last ∷ []) cancelled) ≡ withProgress r (stopped (r .progress) (r .progress .joined) statusCause 0x6C last)
   unfolding read answerTaken ruleCause statusOf sameBytes all
-  second-6C e f = rw (e, after-taken 2 e, f)
+  second-6C e x = rw (e, after-taken 2 e, x)
 
   stops-data : (bytes : List ℕ) → (length bytes ≡ 0 → ⊥) → answerTaken r bytes (0x6C ∷ last ∷ []) cancelled ≡ withProgress r (stopped (r .progress) (r .progress .joined) statusCause 0x6C last)
   unfolding answerTaken ruleCause statusOf sameBytes all
-  stops-data bytes f = simp (ne-eqb _ _ f, or-true)
+  stops-data bytes x = simp (ne-eqb _ _ x, or-true)
 
   -- an answer is its data and its status
   taken-as : (xs : List ℕ) (a b : ℕ) → let bytes = xs ++ (a ∷ b ∷ []) in answerRefused r size (length bytes) ≡ 0 → read r (Arguments.answer size bytes cancelled) ≡ answerTaken r xs (a ∷ b ∷ []) cancelled
@@ -168,7 +168,7 @@ module _ (o : Opening) (ts : List Arguments) (size last : ℕ) (cancelled : List
   -- "and so is a 6C with data"
   pub data-6C : (xs : List ℕ) → (length xs ≡ 0 → ⊥) → let bytes = xs ++ (0x6C ∷ last ∷ []) in answerRefused r size (length bytes) ≡ 0
       → read r (Arguments.answer size bytes cancelled) ≡ withProgress r (stopped (r .progress) (r .progress .joined) statusCause 0x6C last)
-  data-6C xs f e = taken-as xs 0x6C last e ∙ stops-data xs f
+  data-6C xs x e = taken-as xs 0x6C last e ∙ stops-data xs x
 
   stops-other : (xs : List ℕ) (a b : ℕ) → statusOf (a ∷ b ∷ []) ≡ Other → answerTaken r xs (a ∷ b ∷ []) cancelled ≡ withProgress r (stopped (r .progress) (r .progress .joined) statusCause a b)
   unfolding answerTaken ruleCause
@@ -177,7 +177,7 @@ module _ (o : Opening) (ts : List Arguments) (size last : ℕ) (cancelled : List
   -- "Status neither 90 00 nor 61 with any second byte: cause 16, data dropped", of every status word that does not begin with 6C either
   pub other-status : (xs : List ℕ) (a b : ℕ) → sameBytes (a ∷ b ∷ []) (0x90 ∷ 0x00 ∷ []) ≡ false → (a ≡ 0x61 → ⊥) → (a ≡ 0x6C → ⊥) → let bytes = xs ++ (a ∷ b ∷ []) in answerRefused r size (length bytes) ≡ 0
       → read r (Arguments.answer size bytes cancelled) ≡ withProgress r (stopped (r .progress) (r .progress .joined) statusCause a b)
-  other-status xs a b p f g e = taken-as xs a b e ∙ stops-other xs a b (status-other a b p f g)
+  other-status xs a b p x y e = taken-as xs a b e ∙ stops-other xs a b (status-other a b p x y)
 
 -- an answer without data, such as a first 6C, leaves the object buffer as it was
 pub no-data-stays : (s : Session) (object status : List ℕ) → answerTakenBuffer s object [] status ≡ object

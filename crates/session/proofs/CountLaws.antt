@@ -11,7 +11,7 @@ use borrow.Author.Tests.{ltb-false, eqb-true, eqb-false, not-false}
 use Rattle.card.specs.Command.{statusOf}
 use Rattle.card.specs.declared.command.Status.{Status}
 use Rattle.card.specs.declared.command.Status.the-variants.{Done, More, Again, Other}
-use Rattle.session.specs.Tables.{statusCause, emptyCause, fullCause, ends, hasStep2, capacity, answersMost, NextCommand, isResponse, isSentAgain, dataOf, statusBytes, ruleCause, joinedCause}
+use Rattle.session.specs.Tables.{Figures, statusCause, emptyCause, fullCause, ends, hasStep2, capacity, answersMost, NextCommand, isResponse, isSentAgain, dataOf, statusBytes, ruleCause, joinedCause}
 use Rattle.session.specs.Ranges.{causeInRange}
 use Rattle.session.specs.Condition.{commandConditions, answerConditions}
 use Rattle.session.specs.Reading.{Opening, Arguments, Progress, Reading, begins, atStep, nextCommand, commandRefused, sending, answerRefused, stopped, continued, step1End, step2End, goodEnd, judged, appended, causeBy, answerTaken, verdictRefused, verdictTaken, refusedBy, read, reading, takes, answersIn, answers}
@@ -196,7 +196,7 @@ module _ (r : Reading) (h : Countable (r .opening .mode) (r .progress)) (below :
 -- an answer is taken only where a command is outstanding
 pub taken-sent : (r : Reading) (size n : ℕ) → answerRefused r size n ≡ 0 → r .progress .outstanding ≡ true
 unfolding answerRefused
-taken-sent r size n e = not-false (r .progress .outstanding) (none-fit (answerConditions (r .progress .outstanding) size n) refl e .0)
+taken-sent r size n e = not-false (r .progress .outstanding) (none-fit (answerConditions (r .figures) (r .progress .outstanding) size n) refl e .0)
 
 -- ---- every call, and every list of calls
 
@@ -282,27 +282,27 @@ by-steps (t ∷ ts) r h =
     let there = by-steps ts (read r t) (countable-on r t (spends r t h .counts)) in
     omega (arith, here, there)
 
-begins-countable : (o : Opening) → Countable (o .mode) (begins o .progress)
-begins-countable o = record { low = omega arith; small = omega arith; sent = λ z. clash z }
+begins-countable : (f : Figures) (o : Opening) → Countable (o .mode) (begins f o .progress)
+begins-countable f o = record { low = omega arith; small = omega arith; sent = λ z. clash z }
 
 list-countable : (ts : List Arguments) (r : Reading) → Countable (r .opening .mode) (r .progress) → let q = reading r ts in Countable (q .opening .mode) (q .progress)
 list-countable [] r h = h
 list-countable (t ∷ ts) r h = list-countable ts (read r t) (countable-on r t (spends r t h .counts))
 
 -- what the count asks holds after every list of calls
-pub countable-all : (o : Opening) (ts : List Arguments) → let r = reading (begins o) ts in Countable (r .opening .mode) (r .progress)
-countable-all o ts = list-countable ts (begins o) (begins-countable o)
+pub countable-all : (f : Figures) (o : Opening) (ts : List Arguments) → let r = reading (begins f o) ts in Countable (r .opening .mode) (r .progress)
+countable-all f o ts = list-countable ts (begins f o) (begins-countable f o)
 
-pub answers-step : (step : ℕ) (o : Opening) (ts : List Arguments) → answersIn step (begins o) ts ≤ answersMost (o .mode) step
-answers-step step o ts =
-    let most = count step ts (begins o) (begins-countable o) in
+pub answers-step : (step : ℕ) (f : Figures) (o : Opening) (ts : List Arguments) → answersIn step (begins f o) ts ≤ answersMost (o .mode) step
+answers-step step f o ts =
+    let most = count step ts (begins f o) (begins-countable f o) in
     let all = left-most (o .mode) step 0 0 in
     omega (arith, most, all)
 
-pub answers-all : (o : Opening) (ts : List Arguments) → let most = answersMost (o .mode) in answers (begins o) ts ≤ most 0 + most 1 + most 2
-answers-all o ts =
-    let sum = by-steps ts (begins o) (begins-countable o) in
-    let a = answers-step 0 o ts in
-    let b = answers-step 1 o ts in
-    let c = answers-step 2 o ts in
+pub answers-all : (f : Figures) (o : Opening) (ts : List Arguments) → let most = answersMost (o .mode) in answers (begins f o) ts ≤ most 0 + most 1 + most 2
+answers-all f o ts =
+    let sum = by-steps ts (begins f o) (begins-countable f o) in
+    let a = answers-step 0 f o ts in
+    let b = answers-step 1 f o ts in
+    let c = answers-step 2 f o ts in
     omega (arith, sum, a, b, c)

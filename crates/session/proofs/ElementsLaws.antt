@@ -31,7 +31,7 @@ use Rattle.session.proofs.EndedLaws.{Ended, ended-stays, ended-list}
 abbrev bare : Reading → Reading
 bare r =
     let p = r .progress in
-    record { opening = r .opening; progress = record { step = p .step; cause = p .cause; sw1 = 0; sw2 = 0; joined = []; outstanding = p .outstanding; next = p .next }; outcomes = r .outcomes; found = record { step1 = Option.none; step2 = Option.none; verdicts = [] } }
+    record { figures = r .figures; opening = r .opening; progress = record { step = p .step; cause = p .cause; sw1 = 0; sw2 = 0; joined = []; outstanding = p .outstanding; next = p .next }; outcomes = r .outcomes; found = record { step1 = Option.none; step2 = Option.none; verdicts = [] } }
 
 -- it gives every call the same number
 number-by : (r : Reading) (t : Arguments) → refusedBy r t ≡ refusedBy (bare r) t
@@ -52,7 +52,7 @@ expiryField mode joined = fieldValue (kindAt mode 1) expiryTag joined
 -- a reading with what step 1 gave
 abbrev with-one : Reading → StepOne → Reading
 with-one r one =
-    record { opening = r .opening; progress = r .progress; outcomes = r .outcomes; found = record { step1 = Option.some one; step2 = r .found .step2; verdicts = r .found .verdicts } }
+    record { figures = r .figures; opening = r .opening; progress = r .progress; outcomes = r .outcomes; found = record { step1 = Option.some one; step2 = r .found .step2; verdicts = r .found .verdicts } }
 
 -- past step 1, two readings that are the same but for step 1's object, whose FASC-N and expiry are the same
 record SameCard (q r : Reading) : Type 0 where
@@ -81,8 +81,8 @@ module _ (b : Reading) (one two : StepOne) (late : 1 < b .progress .step) (fascn
     (expiry : expiryField (b .opening .mode) (one .joined) ≡ expiryField (b .opening .mode) (two .joined)) where
   -- what else they have may change, in both
   same-with : (p : Progress) (outcomes : List ℕ) (found : Option (List ℕ)) (verdicts : List Verdict) → 1 < p .step
-      → let x : Reading = record { opening = b .opening; progress = p; outcomes = outcomes; found = record { step1 = Option.none; step2 = found; verdicts = verdicts } } in SameCard (with-one x one) (with-one x two)
-  same-with p outcomes found verdicts h = record { base = record { opening = b .opening; progress = p; outcomes = outcomes; found = record { step1 = Option.none; step2 = found; verdicts = verdicts } }; one = one; two = two; left = refl; right = refl; late = h; fascn = fascn; expiry = expiry }
+      → let x : Reading = record { figures = b .figures; opening = b .opening; progress = p; outcomes = outcomes; found = record { step1 = Option.none; step2 = found; verdicts = verdicts } } in SameCard (with-one x one) (with-one x two)
+  same-with p outcomes found verdicts h = record { base = record { figures = b .figures; opening = b .opening; progress = p; outcomes = outcomes; found = record { step1 = Option.none; step2 = found; verdicts = verdicts } }; one = one; two = two; left = refl; right = refl; late = h; fascn = fascn; expiry = expiry }
 
   judged-same : (joined cancelled : List ℕ) → SameCard (judged (with-one b one) joined cancelled) (judged (with-one b two) joined cancelled)
   unfolding judged goodEnd
@@ -182,7 +182,7 @@ module _ (r : Reading) (xs ys cancelled : List ℕ) (at-one : r .progress .step 
       let two : StepOne = record { joined = ys; cancelled = cancelled } in
       let base = step1End r xs cancelled in
       let same : step1End r ys cancelled ≡ with-one base two =
-      ap (λ (o : List ℕ). record { opening = r .opening; progress = base .progress; outcomes = o; found = record { step1 = Option.some two; step2 = r .found .step2; verdicts = r .found .verdicts } }) (ap₂ outcomes-by (sym fascn) (sym expiry)) in
+      ap (λ (o : List ℕ). record { figures = r .figures; opening = r .opening; progress = base .progress; outcomes = o; found = record { step1 = Option.some two; step2 = r .found .step2; verdicts = r .found .verdicts } }) (ap₂ outcomes-by (sym fascn) (sym expiry)) in
       record { base = base; one = record { joined = xs; cancelled = cancelled }; two = two; left = refl; right = same; late = either (λ (n : ℕ). 1 < n) (hasStep2 (r .opening .mode)) (omega arith) (omega arith); fascn = fascn; expiry = expiry }
 
   -- Two data objects of step 1 that are accepted and have the same fields 30 and 35, in whatever else they differ: after the same calls, whatever these are, the findings are the same, and

@@ -13,7 +13,7 @@ use Rattle.common.proofs.ConditionLaws.{none-fit}
 use Rattle.card.specs.Command.{statusOf}
 use Rattle.card.specs.declared.command.Status.{Status}
 use Rattle.card.specs.declared.command.Status.the-variants.{Done, More, Again, Other}
-use Rattle.session.specs.Tables.{ends, capacity, dataOf, statusBytes, joinedCause}
+use Rattle.session.specs.Tables.{Figures, ends, capacity, dataOf, statusBytes, joinedCause}
 use Rattle.session.specs.Condition.{nothingLeft, commandConditions, answerConditions, stampConditions}
 use Rattle.session.proofs.PreviewLaws.{preview-reads}
 use Rattle.session.specs.Reading.{Opening, Arguments, Progress, Reading, begins, nextCommand, commandRefused, answerRefused, verdictRefused, goodEnd, judged, appended, causeBy, answerTaken, refusedBy, accepted, read, reading}
@@ -30,7 +30,7 @@ ended-stays r e (Arguments.command room) = rw (e .not-all-read, e .cause)
 ended-stays r e (Arguments.answer size bytes cancelled) = rw (e .answered)
 ended-stays r e (Arguments.verdict kind yesNo fascn) = rw (e .not-all-read)
 ended-stays r e (Arguments.field size tag) = refl
-ended-stays r e (Arguments.stamp room) = either (λ (q : Reading). q ≡ r) (eqb (refusalOf (stampConditions room)) 0) refl refl
+ended-stays r e (Arguments.stamp room) = either (λ (q : Reading). q ≡ r) (eqb (refusalOf (stampConditions (r .figures) room)) 0) refl refl
 ended-stays r e (Arguments.preview kind yesNo fascn room) = preview-reads r kind yesNo fascn room
 
 pub ended-list : (r : Reading) → Ended r → (ts : List Arguments) → reading r ts ≡ r
@@ -73,7 +73,7 @@ accepted-sound r i (Arguments.command room) e =
     record { before-three = λ _. or-left (eqb (p .step) 3) (ends (p .cause)) left; no-more = λ z. clash (sym (or-right (eqb (p .step) 3) (ends (p .cause)) left) ∙ z) }
 accepted-sound r i (Arguments.answer size bytes cancelled) e =
     let p = r .progress in
-    let s = i .before-three (not-false (p .outstanding) (none-fit (answerConditions (p .outstanding) size (length bytes)) refl e .0)) in
+    let s = i .before-three (not-false (p .outstanding) (none-fit (answerConditions (r .figures) (p .outstanding) size (length bytes)) refl e .0)) in
     by-case SoundReading _ _ (eqb (causeBy p (capacity (r .opening .mode) (p .step)) (statusOf (statusBytes bytes)) (dataOf bytes)) 0)
     (λ _. appended-sound (statusOf (statusBytes bytes)) r (p .joined ++ dataOf bytes) cancelled s) (λ _. record { before-three = λ z. clash z; no-more = λ _. (refl, s) })
 accepted-sound r i (Arguments.verdict kind yesNo fascn) e = i
@@ -87,8 +87,8 @@ list-sound r i [] = i
 list-sound r i (t ∷ ts) = list-sound (read r t) (by-case SoundReading _ _ (eqb (refusedBy r t) 0) (λ e. accepted-sound r i t (eqb-true _ 0 e)) (λ _. i)) ts
 
 -- Where the calls of a list gave a cause of 16 to 22, the calls that follow leave the reading as it is, whatever they are.
-pub ended-for-good : (o : Opening) (ts later : List Arguments) → ends (reading (begins o) ts .progress .cause) ≡ true → reading (reading (begins o) ts) later ≡ reading (begins o) ts
-ended-for-good o ts later e =
-    let r = reading (begins o) ts in
-    let n = list-sound (begins o) (no-cause refl refl) ts .no-more e in
+pub ended-for-good : (f : Figures) (o : Opening) (ts later : List Arguments) → ends (reading (begins f o) ts .progress .cause) ≡ true → reading (reading (begins f o) ts) later ≡ reading (begins f o) ts
+ended-for-good f o ts later e =
+    let r = reading (begins f o) ts in
+    let n = list-sound (begins f o) (no-cause refl refl) ts .no-more e in
     ended-list r (record { cause = e; answered = n .0; not-all-read = n .1 }) later

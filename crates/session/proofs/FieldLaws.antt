@@ -10,12 +10,12 @@ use lib.Dec.{eqb}
 use lib.ListN.{length, drop, take-append-drop, length-drop}
 use lib.Seq.{take-nil, drop-nil, length-take-le}
 use borrow.Author.Tests.{eq-eqb, lt-ltb, eqb-true}
-use Rattle.card.specs.Object.{fingersTag, empty, rowsOf, partIn, bytesAt, fieldPart, fieldValue}
+use Rattle.card.specs.Object.{biometricTag, empty, rowsOf, partIn, bytesAt, fieldPart, fieldValue}
 use Rattle.card.specs.declared.object.Kind.{Kind}
 use Rattle.card.specs.declared.object.Part.{Part}
 use Rattle.card.proofs.ObjectLaws.{part-inside, field-after}
 use Rattle.common.specs.Lists.{isIn}
-use Rattle.session.specs.Tables.{hasStep2, kindAt, baseOf, objectSize, step1Tags, step2Tags, stepOfTag, stepRead}
+use Rattle.session.specs.Tables.{Figures, hasStep2, kindAt, baseOf, objectSize, step1Tags, step2Tags, stepOfTag, stepRead}
 use Rattle.session.specs.Reading.{StepOne, Found, Reading, joinedOne, joinedTwo, joinedAt, fieldIn, fieldFor}
 use Rattle.session.specs.Operation.{noParts, partFor, fieldOf}
 use Rattle.session.proofs.Invariant.{parts-one, part-two, session-of, Held, OneHeld, TwoHeld, Stage, Invariant}
@@ -100,16 +100,16 @@ module _ (mode step : ℕ) (m : List ℕ) where
   one-value tag f (Option.some x) s e k = rw (eq-eqb _ _ (k .1 .whole), step1-read mode step f x s e) (value-kept (kindAt mode 1) tag 1 (x .joined) m (k .1))
 
   two-value : (f : Found) (two : Option (List ℕ)) → Stage step f → f .step2 ≡ two → TwoHeld mode two m
-      → cond (tested mode step m 2) [] (bytesAt (drop (baseOf 2) m) (part-two mode two)) ≡ fieldValue (kindAt mode 2) fingersTag (joinedTwo two)
-  two-value f Option.none s e k = rw (value-none (kindAt mode 2) fingersTag) (either (tested mode step m 2) _ (no-bytes empty (drop (baseOf 2) m) refl))
-  two-value f (Option.some xs) s e k = rw (eq-eqb _ _ (k .1 .whole), step2-read mode step f xs s e (k .0)) (value-kept (kindAt mode 2) fingersTag 2 xs m (k .1))
+      → cond (tested mode step m 2) [] (bytesAt (drop (baseOf 2) m) (part-two mode two)) ≡ fieldValue (kindAt mode 2) biometricTag (joinedTwo two)
+  two-value f Option.none s e k = rw (value-none (kindAt mode 2) biometricTag) (either (tested mode step m 2) _ (no-bytes empty (drop (baseOf 2) m) refl))
+  two-value f (Option.some xs) s e k = rw (eq-eqb _ _ (k .1 .whole), step2-read mode step f xs s e (k .0)) (value-kept (kindAt mode 2) biometricTag 2 xs m (k .1))
 
 -- the step of a tag by two tests; of step 2's object BC alone can be asked for
 abbrev step : Bool → Bool → ℕ
 step x y = cond x 1 (cond y 2 0)
 
-only-BC : (tag : ℕ) → isIn tag step2Tags ≡ true → tag ≡ fingersTag
-only-BC tag e = eqb-true tag fingersTag (rw or-false at e)
+only-BC : (tag : ℕ) → isIn tag step2Tags ≡ true → tag ≡ biometricTag
+only-BC tag e = eqb-true tag biometricTag (rw or-false at e)
 
 no-tag : (b : Bool) (xs : List ℕ) → cond (b || true) [] xs ≡ []
 no-tag true xs = refl
@@ -131,9 +131,9 @@ one-empty : (mode tag : ℕ) (one : Option StepOne) → fieldValue (kindAt mode 
 one-empty mode tag Option.none e = part-none (kindAt mode 1) tag
 one-empty mode tag (Option.some x) e = part-empty (kindAt mode 1) tag (x .joined) e
 
-two-empty : (mode : ℕ) (two : Option (List ℕ)) → fieldValue (kindAt mode 2) fingersTag (joinedTwo two) ≡ [] → part-two mode two .len ≡ 0
+two-empty : (mode : ℕ) (two : Option (List ℕ)) → fieldValue (kindAt mode 2) biometricTag (joinedTwo two) ≡ [] → part-two mode two .len ≡ 0
 two-empty mode Option.none e = refl
-two-empty mode (Option.some xs) e = part-empty (kindAt mode 2) fingersTag xs e
+two-empty mode (Option.some xs) e = part-empty (kindAt mode 2) biometricTag xs e
 
 -- such a field is the empty part of any buffer
 none-read : (r : Reading) (m object : List ℕ) (tag : ℕ) → Invariant r m → fieldIn r tag ≡ [] → fieldOf (session-of r) object tag ≡ []
@@ -152,7 +152,8 @@ unfolding fieldOf
 other-size r m object tag i e = rw (in-range r m i, e)
 
 pub field-none : (r : Reading) (m object : List ℕ) (tag : ℕ) → Invariant r m → fieldFor r (length object) tag ≡ [] → fieldOf (session-of r) object tag ≡ []
-field-none r m object tag i = by-size (eqb (length object) objectSize) refl
+field-none r m object tag i e =
+    by-size (eqb (length object) objectSize) refl (ap (λ (f : Figures). cond (eqb (length object) (f .objectSize)) (fieldIn r tag) []) (sym (i .figures)) ∙ e)
   where
     by-size : (b : Bool) → eqb (length object) objectSize ≡ b → cond b (fieldIn r tag) [] ≡ [] → fieldOf (session-of r) object tag ≡ []
     by-size true e z = none-read r m object tag i z

@@ -10,7 +10,7 @@ use borrow.Author.Tests.{eqb-true, eqb-false, not-false}
 use lib.Dec.{eqb}
 use lib.ListN.{length, getD, set, take, drop, length-set}
 use lib.Seq.{getD-set-same, getD-set-other}
-use Rattle.card.specs.Object.{malformedObject, expiryTag, fingersTag, objectOf, fieldPart, fieldValue}
+use Rattle.card.specs.Object.{malformedObject, expiryTag, biometricTag, objectOf, fieldPart, fieldValue}
 use Rattle.card.specs.Fascn.{unpackOf}
 use Rattle.card.specs.Date.{illFormedDate, dateOf}
 use Rattle.session.specs.Tables.{checks, fascnCause, checkServed, outcomeOf, expiryOutcome, listOutcome, judgedOutcomes, hasStep2, kindAt, stepAfter, baseOf, capacity, objectSize, fascnRead, keyRead, expiryRead, objectCause, joinedCause}
@@ -39,7 +39,7 @@ begun-progress mode step e = record { step = e; filled = omega arith; cause = re
 
 template-end : (r : Reading) (m m′ : List ℕ) → Invariant r m → Leaves r m′ → r .progress .step ≡ 0 → Invariant (withProgress r (atStep 1)) m′
 template-end r m m′ i l e =
-    record { opening = i .opening; progress-good = begun-progress (r .opening .mode) 1 refl; held = refl; one = l .one; two = l .two; stage = up (r .found) (subst (λ (s : ℕ). Stage s (r .found)) e (i .stage)); judged = i .judged }
+    record { figures = i .figures; opening = i .opening; progress-good = begun-progress (r .opening .mode) 1 refl; held = refl; one = l .one; two = l .two; stage = up (r .found) (subst (λ (s : ℕ). Stage s (r .found)) e (i .stage)); judged = i .judged }
   where
     up : (f : Found) → Stage 0 f → Stage 1 f
     up f (Stage.early l e) = Stage.early (omega arith) e
@@ -67,7 +67,7 @@ waits-on kind needed own own′ v o o′ n e (VerdictGave.taken yesNo f p q h z)
     is (Option.some x) = true
 
 -- the two outcomes that step 1's good end sets
-module _ (o : List ℕ) (a b : ℕ) (six : length o ≡ checks) where
+module _ (o : List ℕ) (a b : ℕ) (counted : length o ≡ checks) where
   set-other : (i : ℕ) → (i ≡ 2 → ⊥) → (i ≡ 3 → ⊥) → getD (set (set o 2 a) 3 b) i 0 ≡ getD o i 0
   set-other i h k = getD-set-other (set o 2 a) 3 i b 0 k ∙ getD-set-other o 2 i a 0 h
 
@@ -86,13 +86,13 @@ unfolding verdictOn
 one-judged o old f xs cancelled n j =
     let a = expiryOutcome (o .date) (expiryRead (o .mode) xs) in
     let b = listOutcome (keyRead (o .mode) xs) cancelled in
-    let six : length (set old 2 a) ≡ checks = length-set old 2 a ∙ j .six in
+    let counted : length (set old 2 a) ≡ checks = length-set old 2 a ∙ j .counted in
     record {
-      six = length-set (set old 2 a) 3 b ∙ six;
+      counted = length-set (set old 2 a) 3 b ∙ counted;
       small = set-in-range (set old 2 a) 3 b (list-small (keyRead (o .mode) xs) cancelled) (set-in-range old 2 a (expiry-small (o .date) (expiryRead (o .mode) xs)) (j .small));
-      verdicts = λ kind g. waits-on kind _ (ownFascn (o .mode) (f .step1)) _ (verdictOn kind (f .verdicts)) (outcomeOf old (checkServed kind)) _ (ap (λ (x : Found). verdictOn kind (x .verdicts)) n) (set-other old a b (j .six) (place-of kind) (λ z. placed kind g .not-expiry (sym z)) (λ z. placed kind g .not-list (sym z))) (j .verdicts kind g);
-      expiry = set-three old a b (j .six);
-      list = set-four old a b (j .six);
+      verdicts = λ kind g. waits-on kind _ (ownFascn (o .mode) (f .step1)) _ (verdictOn kind (f .verdicts)) (outcomeOf old (checkServed kind)) _ (ap (λ (x : Found). verdictOn kind (x .verdicts)) n) (set-other old a b (j .counted) (place-of kind) (λ z. placed kind g .not-expiry (sym z)) (λ z. placed kind g .not-list (sym z))) (j .verdicts kind g);
+      expiry = set-three old a b (j .counted);
+      list = set-four old a b (j .counted);
     }
 
 -- where nothing was found yet
@@ -119,6 +119,7 @@ one-end r m m′ xs cancelled i l e b k good =
     let one : StepOne = record { joined = xs; cancelled = cancelled } in
     let n = early-found (r .progress .step) (r .found) e (i .stage) in
     record {
+      figures = i .figures;
       opening = i .opening;
       progress-good = begun-progress mode (stepAfter mode 1) (after-one mode);
       held = refl;
@@ -133,7 +134,7 @@ one-end r m m′ xs cancelled i l e b k good =
 two-end : (r : Reading) (m m′ xs : List ℕ) → Invariant r m → Leaves r m′ → r .progress .step ≡ 2 → Held (r .opening .mode) 2 xs m′
     → Invariant (step2End r xs) m′
 two-end r m m′ xs i l e k =
-    record { opening = i .opening; progress-good = begun-progress (r .opening .mode) 3 refl; held = refl; one = l .one; two = (has-two (r .progress .step) e (i .progress-good .step), k); stage = up (r .progress .step) (r .found) e (i .stage); judged = record { six = i .judged .six; small = i .judged .small; verdicts = i .judged .verdicts; expiry = i .judged .expiry; list = i .judged .list } }
+    record { figures = i .figures; opening = i .opening; progress-good = begun-progress (r .opening .mode) 3 refl; held = refl; one = l .one; two = (has-two (r .progress .step) e (i .progress-good .step), k); stage = up (r .progress .step) (r .found) e (i .stage); judged = record { counted = i .judged .counted; small = i .judged .small; verdicts = i .judged .verdicts; expiry = i .judged .expiry; list = i .judged .list } }
   where
     has-two : (step : ℕ) → step ≡ 2 → stepInRange (r .opening .mode) step ≡ true → hasStep2 (r .opening .mode) ≡ true
     has-two step z h = rw z at h
@@ -161,7 +162,7 @@ good-end r m m′ xs cancelled i l lt small b held good =
     last n a p q = omega arith
 
     at-step-2 : (n : ℕ) → n ≡ 2
-        → _≡_ {A = Host} (record { session = step2EndSession (session-of r) (fieldPart (kindAt (r .opening .mode) n) fingersTag xs); object = m′ }) (record { session = step2EndSession (session-of r) (fieldPart (kindAt (r .opening .mode) 2) fingersTag xs); object = m′ })
+        → _≡_ {A = Host} (record { session = step2EndSession (session-of r) (fieldPart (kindAt (r .opening .mode) n) biometricTag xs); object = m′ }) (record { session = step2EndSession (session-of r) (fieldPart (kindAt (r .opening .mode) 2) biometricTag xs); object = m′ })
     at-step-2 n e = rw e
 
     held-at : (step k : ℕ) → step ≡ k → length xs ≤ capacity (r .opening .mode) step → take (length xs) (drop (baseOf step) m′) ≡ xs → Held (r .opening .mode) k xs m′

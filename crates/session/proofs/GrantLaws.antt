@@ -13,7 +13,7 @@ use lib.ListN.{length, getD}
 use Rattle.common.specs.Lists.{sameBytes, isIn}
 use Rattle.common.proofs.ListsLaws.{all-at}
 use Rattle.common.proofs.ListsLaws.{same-bytes, same-refl}
-use Rattle.session.specs.Tables.{checks, goodKind, needs, checkServed, outcomeOf, passed, unneeded, failed, otherCard, verdictOutcome, expiryOutcome, listOutcome, lowestFrom, causeOf, allPassed, standingOf, fascnRead, keyRead, expiryRead}
+use Rattle.session.specs.Tables.{Figures, since, checks, goodKind, needs, checkServed, outcomeOf, passed, unneeded, failed, otherCard, verdictOutcome, expiryOutcome, listOutcome, lowestFrom, causeOf, allPassed, standingOf, fascnRead, keyRead, expiryRead}
 use Rattle.session.specs.Reading.{Opening, StepOne, Verdict, Found, Reading, ownFascn}
 use Rattle.session.specs.Finding.{verdictOn, finding, standing, Granted}
 use Rattle.common.proofs.TestLaws.{clash, and-left, and-right, either}
@@ -30,7 +30,14 @@ needs-both : (mode : ℕ) → (needs mode 3 ≡ true) × (needs mode 4 ≡ true)
 unfolding needs
 needs-both mode =
     either Both (eqb mode 1) {x = 1 ∷ 2 ∷ 3 ∷ 4 ∷ []} (refl, refl)
-    (either Both (eqb mode 2) {x = 3 ∷ 4 ∷ 5 ∷ []} (refl, refl) (either Both (eqb mode 3) {x = 1 ∷ 2 ∷ 3 ∷ 4 ∷ 6 ∷ []} {y = 1 ∷ 2 ∷ 3 ∷ 4 ∷ 5 ∷ 6 ∷ []} (refl, refl) (refl, refl)))
+    (either Both (eqb mode 2) {x = 3 ∷ 4 ∷ 5 ∷ []} (refl, refl)
+    (either Both (eqb mode 3) {x = 1 ∷ 2 ∷ 3 ∷ 4 ∷ 6 ∷ []} (refl, refl)
+    (either Both (eqb mode 4) {x = 1 ∷ 2 ∷ 3 ∷ 4 ∷ 5 ∷ 6 ∷ []} (refl, refl)
+    (either Both (eqb mode 5) {x = 1 ∷ 2 ∷ 3 ∷ 4 ∷ 7 ∷ []} {y = 1 ∷ 2 ∷ 3 ∷ 4 ∷ 5 ∷ 7 ∷ []} (refl, refl) (refl, refl)))))
+
+-- the kinds of a reading by the figures since
+kind-in : (r : Reading) (kind : ℕ) → r .figures ≡ since → goodKind (r .figures) kind ≡ goodKind since kind
+kind-in r kind e = ap (λ (f : Figures). goodKind f kind) e
 
 -- checks 3 and 4, where step 1 has ended well
 expiry-judged : {p : Opening} {o : List ℕ} {f : Found} {one : StepOne} → Judged p o f → f .step1 ≡ Option.some one
@@ -50,10 +57,10 @@ stands true false e = absurd (omega arith)
 stands false false e = absurd (omega arith)
 
 -- a needed check passed
-passed-at : (mode : ℕ) (o : List ℕ) → allPassed mode o ≡ true → (i : ℕ) → i < checks → needs mode (i + 1) ≡ true → getD o i 0 ≡ passed
+passed-at : (mode : ℕ) (o : List ℕ) → allPassed mode o ≡ true → (i : ℕ) → i < length o → needs mode (i + 1) ≡ true → getD o i 0 ≡ passed
 unfolding allPassed
 passed-at mode o p i low n =
-    let t : (not (needs mode (i + 1)) || eqb (getD o i 0) passed) ≡ true = all-at _ checks p i low in
+    let t : (not (needs mode (i + 1)) || eqb (getD o i 0) passed) ≡ true = all-at _ (length o) p i low in
     eqb-true (getD o i 0) passed (rw n at t)
 
 -- what the outcomes of checks 3 and 4 say where they passed
@@ -106,7 +113,8 @@ grants r m i e =
     let j = i .judged in
     let k = stands (not (eqb (causeOf (r .progress .cause) o) 0)) (eqb (r .progress .step) 3 && allPassed mode o) e in
     let last : r .progress .step ≡ 3 = eqb-true (r .progress .step) 3 (and-left _ _ k) in
-    let p = passed-at mode o (and-right (eqb (r .progress .step) 3) (allPassed mode o) k) in
+    let p : (i : ℕ) → i < checks → needs mode (i + 1) ≡ true → getD o i 0 ≡ passed =
+    λ n low. passed-at mode o (and-right (eqb (r .progress .step) 3) (allPassed mode o) k) n (rw (j .counted) low) in
     let x = late-one (r .progress .step) (r .found) (i .stage) last in
     let one = x .0 in
     let own : ownFascn mode (r .found .step1) ≡ fascnRead mode (one .joined) = ap (ownFascn mode) (x .1) in
@@ -116,7 +124,7 @@ grants r m i e =
       read = x .1;
       in-time = in-time-by _ _ (sym (expiry-judged j (x .1)) ∙ p 2 (omega arith) (needs-both mode .0));
       not-listed = not-listed-by _ _ (sym (list-judged j (x .1)) ∙ p 3 (omega arith) (needs-both mode .1));
-      verdicts = λ kind good n. rw (← own) (taken-yes kind _ _ _ _ (j .verdicts kind good) n (p (place-of kind) (placed kind good .low) (rw (placed kind good .next) n)));
+      verdicts = λ kind known n. let good = sym (kind-in r kind (i .figures)) ∙ known in rw (← own) (taken-yes kind _ _ _ _ (j .verdicts kind good) n (p (place-of kind) (placed kind good .low) (rw (placed kind good .next) n)));
     }
 
 -- ---- the standing, from granted
@@ -145,29 +153,31 @@ yes-taken kind true own v o (VerdictGave.taken yesNo fascn n c le e) h =
     let same : fascn ≡ own = ap (λ (p : ℕ × List ℕ). p .1) z in
     e ∙ rw (one, same, same-refl own) refl
 
--- a law of the six places, place by place
-six : (P : ℕ → Type 0) → P 0 → P 1 → P 2 → P 3 → P 4 → P 5 → (i : ℕ) → i < checks → P i
-six P a b c d e f zero h = a
-six P a b c d e f (suc zero) h = b
-six P a b c d e f (suc (suc zero)) h = c
-six P a b c d e f (suc (suc (suc zero))) h = d
-six P a b c d e f (suc (suc (suc (suc zero)))) h = e
-six P a b c d e f (suc (suc (suc (suc (suc zero))))) h = f
-six P a b c d e f (suc (suc (suc (suc (suc (suc i)))))) h = absurd (omega arith)
+-- a law of the seven places, place by place
+seven : (P : ℕ → Type 0) → P 0 → P 1 → P 2 → P 3 → P 4 → P 5 → P 6 → (i : ℕ) → i < checks → P i
+seven P a b c d e f g zero h = a
+seven P a b c d e f g (suc zero) h = b
+seven P a b c d e f g (suc (suc zero)) h = c
+seven P a b c d e f g (suc (suc (suc zero))) h = d
+seven P a b c d e f g (suc (suc (suc (suc zero)))) h = e
+seven P a b c d e f g (suc (suc (suc (suc (suc zero))))) h = f
+seven P a b c d e f g (suc (suc (suc (suc (suc (suc zero)))))) h = g
+seven P a b c d e f g (suc (suc (suc (suc (suc (suc (suc i))))))) h = absurd (omega arith)
 
 -- ---- the step, from granted
 
 -- every mode needs a verdict
-a-kind : (mode : ℕ) → (kind : ℕ) × ((goodKind kind ≡ true) × (needs mode (checkServed kind) ≡ true))
+abbrev SomeKind : List ℕ → Type 0
+SomeKind cs = (kind : ℕ) × ((goodKind since kind ≡ true) × (isIn (checkServed kind) cs ≡ true))
+
+a-kind : (mode : ℕ) → (kind : ℕ) × ((goodKind since kind ≡ true) × (needs mode (checkServed kind) ≡ true))
 unfolding needs checkServed
-a-kind mode = go (eqb mode 1) (eqb mode 2) (eqb mode 3)
-  where
-    go : (a b c : Bool)
-        → (kind : ℕ) × ((goodKind kind ≡ true) × (isIn (checkServed kind) (cond a (1 ∷ 2 ∷ 3 ∷ 4 ∷ []) (cond b (3 ∷ 4 ∷ 5 ∷ []) (cond c (1 ∷ 2 ∷ 3 ∷ 4 ∷ 6 ∷ []) (1 ∷ 2 ∷ 3 ∷ 4 ∷ 5 ∷ 6 ∷ [])))) ≡ true))
-    go true b c = (1, (refl, refl))
-    go false true c = (3, (refl, refl))
-    go false false true = (1, (refl, refl))
-    go false false false = (1, (refl, refl))
+a-kind mode =
+    either SomeKind (eqb mode 1) {x = 1 ∷ 2 ∷ 3 ∷ 4 ∷ []} (1, (refl, refl))
+    (either SomeKind (eqb mode 2) {x = 3 ∷ 4 ∷ 5 ∷ []} (3, (refl, refl))
+    (either SomeKind (eqb mode 3) {x = 1 ∷ 2 ∷ 3 ∷ 4 ∷ 6 ∷ []} (1, (refl, refl))
+    (either SomeKind (eqb mode 4) {x = 1 ∷ 2 ∷ 3 ∷ 4 ∷ 5 ∷ 6 ∷ []} (1, (refl, refl))
+    (either SomeKind (eqb mode 5) {x = 1 ∷ 2 ∷ 3 ∷ 4 ∷ 7 ∷ []} {y = 1 ∷ 2 ∷ 3 ∷ 4 ∷ 5 ∷ 7 ∷ []} (1, (refl, refl)) (1, (refl, refl))))))
 
 abbrev is-given : Option Verdict → Bool
 is-given Option.none = false
@@ -183,7 +193,7 @@ given-late step kind f (Stage.late l x e) g = l
 pub at-step-3 : (r : Reading) (m : List ℕ) → Invariant r m → Granted r → r .progress .step ≡ 3
 at-step-3 r m i g =
     let k = a-kind (r .opening .mode) in
-    given-late (r .progress .step) (k .0) (r .found) (i .stage) (ap is-given (g .verdicts (k .0) (k .1 .0) (k .1 .1)))
+    given-late (r .progress .step) (k .0) (r .found) (i .stage) (ap is-given (g .verdicts (k .0) (kind-in r (k .0) (i .figures) ∙ k .1 .0) (k .1 .1)))
 
 -- every outcome is then 2 where the check is needed, and 0 elsewhere
 settled : (r : Reading) (m : List ℕ) → Invariant r m → Granted r → (i : ℕ) → i < checks → getD (r .outcomes) i 0 ≡ cond (needs (r .opening .mode) (i + 1)) passed unneeded
@@ -194,10 +204,10 @@ settled r m i g =
     let one = g .one in
     let j = i .judged in
     let own : ownFascn mode (r .found .step1) ≡ fascnRead mode (one .joined) = ap (ownFascn mode) (g .read) in
-    let by-kind : (kind : ℕ) → goodKind kind ≡ true → outcomeOf o (checkServed kind) ≡ cond (needs mode (checkServed kind)) passed unneeded =
-    λ kind good. yes-taken kind _ _ _ _ (j .verdicts kind good) (λ n. rw own (g .verdicts kind good n)) in
-    six (λ (k : ℕ). getD o k 0 ≡ cond (needs mode (k + 1)) passed unneeded) (by-kind 1 refl) (by-kind 2 refl)
-    (rw (needs-both mode .0) (expiry-judged j (g .read) ∙ rw (le-leb _ _ (g .in-time)) refl)) (rw (needs-both mode .1) (list-judged j (g .read) ∙ rw (g .not-listed) refl)) (by-kind 3 refl) (by-kind 4 refl)
+    let by-kind : (kind : ℕ) → goodKind since kind ≡ true → outcomeOf o (checkServed kind) ≡ cond (needs mode (checkServed kind)) passed unneeded =
+    λ kind good. yes-taken kind _ _ _ _ (j .verdicts kind good) (λ n. rw own (g .verdicts kind (kind-in r kind (i .figures) ∙ good) n)) in
+    seven (λ (k : ℕ). getD o k 0 ≡ cond (needs mode (k + 1)) passed unneeded) (by-kind 1 refl) (by-kind 2 refl)
+    (rw (needs-both mode .0) (expiry-judged j (g .read) ∙ rw (le-leb _ _ (g .in-time)) refl)) (rw (needs-both mode .1) (list-judged j (g .read) ∙ rw (g .not-listed) refl)) (by-kind 3 refl) (by-kind 4 refl) (by-kind 5 refl)
 
 sound : (b : Bool) → (eqb (cond b passed unneeded) failed || eqb (cond b passed unneeded) otherCard) ≡ false
 sound true = refl
@@ -209,7 +219,7 @@ granted r m i g =
     let mode = r .opening .mode in
     let o = r .outcomes in
     let s = settled r m i g in
-    let low : lowestFrom 1 o ≡ 0 = none-failed 1 o (λ k h. rw (s k (rw (i .judged .six) at h)) (sound (needs mode (k + 1)))) in
+    let low : lowestFrom 1 o ≡ 0 = none-failed 1 o (λ k h. rw (s k (rw (i .judged .counted) at h)) (sound (needs mode (k + 1)))) in
     let last = at-step-3 r m i g in
     rw (last, i .progress-good .no-cause last, low, g .passed) refl
 

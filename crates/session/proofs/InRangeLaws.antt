@@ -10,7 +10,7 @@ use borrow.Author.Tests.{le-leb, not-true, not-false}
 use lib.Dec.{eqb}
 use lib.ListN.{length, getD}
 use Rattle.card.specs.Tlv.{onlyFrom, onlyOf}
-use Rattle.card.specs.Object.{expiryTag, fingersTag, empty, mostFields, fieldValue, objectOf, objectFrom}
+use Rattle.card.specs.Object.{expiryTag, biometricTag, empty, mostFields, fieldValue, objectOf, objectFrom}
 use Rattle.card.specs.Date.{realDate}
 use Rattle.card.specs.Command.{aidRefused}
 use Rattle.card.specs.declared.object.Part.{Part}
@@ -20,7 +20,7 @@ use Rattle.common.proofs.ListsLaws.{all-of}
 use Rattle.card.proofs.TlvLaws.{header-empty}
 use Rattle.card.proofs.ObjectLaws.{AllInside, parts-inside, part-inside}
 use Rattle.card.proofs.DateLaws.{date-real}
-use Rattle.session.specs.Tables.{modeInRange, kindAt, baseOf, capacity, objectSize, expiryRead}
+use Rattle.session.specs.Tables.{since, modeInRange, kindAt, baseOf, capacity, objectSize, expiryRead}
 use Rattle.session.specs.Reading.{Opening, StepOne, Reading}
 use Rattle.session.specs.Ranges.{openingInRange, partInside, partsInside, cardInRange, rangedValues, valuesInRange, inRange}
 use Rattle.session.specs.Operation.{noParts}
@@ -59,9 +59,9 @@ no-parts-in-range mode step =
 
 -- ---- the groups
 
-opening-in-range : (o : Opening) → goodOpening o ≡ true → openingInRange (o .mode) (o .date) (length (o .aid)) ≡ true
+opening-in-range : (o : Opening) → goodOpening since o ≡ true → openingInRange (o .mode) (o .date) (length (o .aid)) ≡ true
 opening-in-range o e =
-    let a = modeInRange (o .mode) && realDate (o .date) in
+    let a = modeInRange since (o .mode) && realDate (o .date) in
     and-both (and-left a (not (aidRefused (o .aid))) e) (not-false _ (not-true _ (and-right a (not (aidRefused (o .aid))) e)))
 
 card-in-range : (mode : ℕ) (one : Option StepOne) (two : Option (List ℕ)) (m : List ℕ) → OneHeld mode one m → TwoHeld mode two m
@@ -78,7 +78,7 @@ card-in-range mode one two m a b = and-both (expiry one a) (and-both (step1 one 
 
     step2 : (two : Option (List ℕ)) → TwoHeld mode two m → partInside (baseOf 2) (part-two mode two) ≡ true
     step2 Option.none b = inside-one (baseOf 2) 0 empty (step-fits mode 2 0 (omega arith)) (omega arith)
-    step2 (Option.some xs) b = inside-one (baseOf 2) (length xs) _ (step-fits mode 2 (length xs) (b .1 .small)) (part-inside (kindAt mode 2) xs fingersTag)
+    step2 (Option.some xs) b = inside-one (baseOf 2) (length xs) _ (step-fits mode 2 (length xs) (b .1 .small)) (part-inside (kindAt mode 2) xs biometricTag)
 
 pub in-range : (r : Reading) (m : List ℕ) → Invariant r m → inRange (session-of r) ≡ true
 unfolding inRange valuesInRange rangedValues

@@ -10,12 +10,12 @@ use Rattle.card.specs.Command.{aidMost, withLast}
 use Rattle.card.proofs.CommandLaws.{with-last-twice, get-response-last}
 use Rattle.common.specs.Lists.{overFront}
 use Rattle.card.specs.Fascn.{unpackOf}
-use Rattle.card.specs.Object.{expiryTag, fingersTag, empty, objectOf, fieldPart, fieldValue}
+use Rattle.card.specs.Object.{expiryTag, biometricTag, empty, objectOf, fieldPart, fieldValue}
 use Rattle.card.specs.Date.{dateOf}
 use Rattle.card.specs.declared.object.Part.{Part}
 use Rattle.card.specs.declared.command.Status.{Status}
 use Rattle.card.specs.declared.command.Status.the-variants.{Done, More, Again, Other}
-use Rattle.session.specs.Tables.{checks, goodKind, needs, checkServed, outcomeOf, verdictOutcome, expiryOutcome, listOutcome, hasStep2, kindAt, baseOf, capacity, objectSize, NextCommand, commandBytes, isResponse, isSentAgain, ruleCause, fascnRead, keyRead, expiryRead, statusShown}
+use Rattle.session.specs.Tables.{since, checks, goodKind, needs, checkServed, outcomeOf, verdictOutcome, expiryOutcome, listOutcome, hasStep2, kindAt, baseOf, capacity, objectSize, NextCommand, commandBytes, isResponse, isSentAgain, ruleCause, fascnRead, keyRead, expiryRead, statusShown}
 use Rattle.session.specs.Reading.{Opening, Progress, StepOne, Verdict, Found, Reading, ownFascn}
 use Rattle.session.specs.Finding.{verdictOn}
 use Rattle.session.specs.Ranges.{stepInRange, causeInRange, outstandingInRange, outcomesInRange}
@@ -96,7 +96,7 @@ parts-one mode (Option.some f) = objectOf (kindAt mode 1) (f .joined) .1
 
 abbrev pub part-two : ℕ → Option (List ℕ) → Part
 part-two mode Option.none = empty
-part-two mode (Option.some joined) = fieldPart (kindAt mode 2) fingersTag joined
+part-two mode (Option.some joined) = fieldPart (kindAt mode 2) biometricTag joined
 
 abbrev pub card-of : ℕ → Option StepOne → Option (List ℕ) → Card
 card-of mode one two = record { fascn = ownFascn mode one; expiry = expiry-of mode one; step1 = parts-one mode one; step2 = part-two mode two }
@@ -155,9 +155,9 @@ ListJudged mode o Option.none = Unit
 ListJudged mode o (Option.some f) = outcomeOf o 4 ≡ listOutcome (keyRead mode (f .joined)) (f .cancelled)
 
 pub record Judged (opening : Opening) (o : List ℕ) (f : Found) : Type 0 where
-  pub six : length o ≡ checks
+  pub counted : length o ≡ checks
   pub small : outcomesInRange o ≡ true
-  pub verdicts : (kind : ℕ) → goodKind kind ≡ true
+  pub verdicts : (kind : ℕ) → goodKind since kind ≡ true
       → VerdictGave kind (needs (opening .mode) (checkServed kind)) (ownFascn (opening .mode) (f .step1)) (verdictOn kind (f .verdicts)) (outcomeOf o (checkServed kind))
   pub expiry : ExpiryJudged (opening .mode) (opening .date) o (f .step1)
   pub list : ListJudged (opening .mode) o (f .step1)
@@ -178,7 +178,8 @@ pub record GoodProgress (mode : ℕ) (c : Progress) : Type 0 where
   pub bytes : Bytes (c .joined)
 
 pub record Invariant (r : Reading) (m : List ℕ) : Type 0 where
-  pub opening : goodOpening (r .opening) ≡ true
+  pub figures : r .figures ≡ since
+  pub opening : goodOpening since (r .opening) ≡ true
   pub progress-good : GoodProgress (r .opening .mode) (r .progress)
   pub held : take (length (r .progress .joined)) (drop (baseOf (r .progress .step)) m) ≡ r .progress .joined
   pub one : OneHeld (r .opening .mode) (r .found .step1) m

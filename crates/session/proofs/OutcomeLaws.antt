@@ -10,28 +10,29 @@ use lib.Dec.{eqb, leb}
 use lib.ListN.{getD, set}
 use Rattle.common.specs.Lists.{sameBytes, isIn}
 use Rattle.common.proofs.ListsLaws.{all-at, all-of}
-use Rattle.session.specs.Tables.{checks, goodKind, checkServed, verdictOutcome, expiryOutcome, listOutcome}
+use Rattle.session.specs.Tables.{since, checks, goodKind, checkServed, verdictOutcome, expiryOutcome, listOutcome}
 use Rattle.session.specs.Ranges.{outcomesInRange}
 use Rattle.common.proofs.TestLaws.{clash, and-right, either}
 
 -- ---- the places of the checks that verdicts serve
 
--- what holds of the kinds 1 to 4
-pub each-kind : (P : ℕ → Type 0) → P 1 → P 2 → P 3 → P 4 → (kind : ℕ) → goodKind kind ≡ true → P kind
-each-kind P a b c d zero e = clash e
-each-kind P a b c d (suc zero) e = a
-each-kind P a b c d (suc (suc zero)) e = b
-each-kind P a b c d (suc (suc (suc zero))) e = c
-each-kind P a b c d (suc (suc (suc (suc zero)))) e = d
-each-kind P a b c d (suc (suc (suc (suc (suc n))))) e =
-    absurd (let l = leb-true (suc (suc (suc (suc (suc n))))) 4 (and-right (leb 1 (suc (suc (suc (suc (suc n)))))) _ e) in omega arith)
+-- what holds of the kinds 1 to 5
+pub each-kind : (P : ℕ → Type 0) → P 1 → P 2 → P 3 → P 4 → P 5 → (kind : ℕ) → goodKind since kind ≡ true → P kind
+each-kind P a b c d f zero e = clash e
+each-kind P a b c d f (suc zero) e = a
+each-kind P a b c d f (suc (suc zero)) e = b
+each-kind P a b c d f (suc (suc (suc zero))) e = c
+each-kind P a b c d f (suc (suc (suc (suc zero)))) e = d
+each-kind P a b c d f (suc (suc (suc (suc (suc zero))))) e = f
+each-kind P a b c d f (suc (suc (suc (suc (suc (suc n)))))) e =
+    absurd (let l = leb-true (suc (suc (suc (suc (suc (suc n)))))) 5 (and-right (leb 1 (suc (suc (suc (suc (suc (suc n))))))) _ e) in omega arith)
 
 abbrev pub place-of : ℕ → ℕ
 place-of kind = checkServed kind - 1
 
 -- the kind whose check has a place
 abbrev kind-of : ℕ → ℕ
-kind-of place = cond (eqb place 0) 1 (cond (eqb place 1) 2 (cond (eqb place 4) 3 4))
+kind-of place = cond (eqb place 0) 1 (cond (eqb place 1) 2 (cond (eqb place 4) 3 (cond (eqb place 5) 4 5)))
 
 pub record Placed (kind : ℕ) : Type 0 where
   pub low : place-of kind < checks
@@ -40,16 +41,17 @@ pub record Placed (kind : ℕ) : Type 0 where
   pub not-list : _≡_ {A = ℕ} 3 (place-of kind) → ⊥
   pub back : kind-of (place-of kind) ≡ kind
 
-pub placed : (kind : ℕ) → goodKind kind ≡ true → Placed kind
+pub placed : (kind : ℕ) → goodKind since kind ≡ true → Placed kind
 unfolding checkServed
 placed =
     each-kind Placed (record { low = omega arith; next = refl; not-expiry = λ e. omega arith; not-list = λ e. omega arith; back = refl })
     (record { low = omega arith; next = refl; not-expiry = λ e. omega arith; not-list = λ e. omega arith; back = refl })
     (record { low = omega arith; next = refl; not-expiry = λ e. omega arith; not-list = λ e. omega arith; back = refl })
     (record { low = omega arith; next = refl; not-expiry = λ e. omega arith; not-list = λ e. omega arith; back = refl })
+    (record { low = omega arith; next = refl; not-expiry = λ e. omega arith; not-list = λ e. omega arith; back = refl })
 
 -- two kinds have two places
-pub places-apart : (k l : ℕ) → goodKind k ≡ true → goodKind l ≡ true → place-of k ≡ place-of l → k ≡ l
+pub places-apart : (k l : ℕ) → goodKind since k ≡ true → goodKind since l ≡ true → place-of k ≡ place-of l → k ≡ l
 places-apart k l p q e = sym (placed k p .back) ∙ ap kind-of e ∙ placed l q .back
 
 -- ---- outcomes are 0 to 4

@@ -12,7 +12,7 @@ use Rattle.common.specs.Refusal.{refusalOf}
 use Rattle.common.specs.Lists.{overFront}
 use Rattle.common.proofs.TestLaws.{and-both, either}
 use Rattle.common.proofs.ConditionLaws.{none-fit, refusal-append}
-use Rattle.session.specs.Tables.{checkServed, verdictOutcome, stampSize}
+use Rattle.session.specs.Tables.{since, checkServed, verdictOutcome, stampSize}
 use Rattle.session.specs.Condition.{verdictConditions, stampConditions}
 use Rattle.session.specs.Reading.{Arguments, Reading, refusedBy, read}
 use Rattle.session.specs.Ranges.{rangedValues, valuesInRange, inRange, outOfRange}
@@ -25,10 +25,10 @@ use Rattle.session.proofs.CallLaws.{stamp-accepted, stamp-refused}
 
 module _ (s : Session) (kind yesNo : ℕ) (fascn : List ℕ) where
   -- the number is the verdict's, and where that is 0 it is 6 or 0
-  pub preview-number-by : (room : ℕ) → previewRefusal s kind yesNo fascn room ≡ cond (eqb (verdictRefusal s kind yesNo fascn) 0) (refusalOf (stampConditions room)) (verdictRefusal s kind yesNo fascn)
+  pub preview-number-by : (room : ℕ) → previewRefusal s kind yesNo fascn room ≡ cond (eqb (verdictRefusal s kind yesNo fascn) 0) (refusalOf (stampConditions since room)) (verdictRefusal s kind yesNo fascn)
   unfolding previewRefusal verdictRefusal
   preview-number-by room =
-      refusal-append ((4, outOfRange s) ∷ verdictConditions (s .opening .mode) (s .progress .step) (s .outcomes) kind yesNo fascn) (stampConditions room) refl
+      refusal-append ((4, outOfRange s) ∷ verdictConditions since (s .opening .mode) (s .progress .step) (s .outcomes) kind yesNo fascn) (stampConditions since room) refl
 
   -- ---- the two calls
 
@@ -36,17 +36,17 @@ module _ (s : Session) (kind yesNo : ℕ) (fascn : List ℕ) where
   taken-in-range : verdictRefusal s kind yesNo fascn ≡ 0 → inRange (verdictTakenSession s kind yesNo fascn) ≡ true
   unfolding verdictRefusal inRange valuesInRange rangedValues verdictTakenSession
   taken-in-range e =
-      let c = none-fit ((4, outOfRange s) ∷ verdictConditions (s .opening .mode) (s .progress .step) (s .outcomes) kind yesNo fascn) refl e in
+      let c = none-fit ((4, outOfRange s) ∷ verdictConditions since (s .opening .mode) (s .progress .step) (s .outcomes) kind yesNo fascn) refl e in
       let g = groups-in-range s (not-false (inRange s) (c .0)) in
       and-both (and-both (g .0 .0) (g .0 .1)) (and-both (set-in-range (s .outcomes) (checkServed kind - 1) (verdictOutcome (s .card .fascn) yesNo fascn) (verdict-small (s .card .fascn) yesNo fascn) (g .1 .0)) (g .1 .1))
 
-  stamp-on-taken : (room : ℕ) → verdictRefusal s kind yesNo fascn ≡ 0 → stampRefusal (verdictTakenSession s kind yesNo fascn) room ≡ refusalOf (stampConditions room)
+  stamp-on-taken : (room : ℕ) → verdictRefusal s kind yesNo fascn ≡ 0 → stampRefusal (verdictTakenSession s kind yesNo fascn) room ≡ refusalOf (stampConditions since room)
   unfolding stampRefusal
   stamp-on-taken room e = rw (taken-in-range e)
 
   -- where the verdict is taken, and where it is refused
   preview-taken : (out : List ℕ) → verdictRefusal s kind yesNo fascn ≡ 0
-      → let t = verdictTakenSession s kind yesNo fascn in previewOf s kind yesNo fascn out ≡ (refusalOf (stampConditions (length out)), stampBuffer t out)
+      → let t = verdictTakenSession s kind yesNo fascn in previewOf s kind yesNo fascn out ≡ (refusalOf (stampConditions since (length out)), stampBuffer t out)
   unfolding previewOf verdictOf stampAnswer
   preview-taken out e = rw (eq-eqb (verdictRefusal s kind yesNo fascn) 0 e) (ap (λ (k : ℕ). (k, stampBuffer (verdictTakenSession s kind yesNo fascn) out)) (stamp-on-taken (length out) e))
 
@@ -69,7 +69,7 @@ module _ (s : Session) (kind yesNo : ℕ) (fascn : List ℕ) where
       go : (b : Bool) → eqb (verdictRefusal s kind yesNo fascn) 0 ≡ b → previewOf s kind yesNo fascn out ≡ (previewRefusal s kind yesNo fascn (length out), out)
       go true e =
           let z = eqb-true _ 0 e in
-          let k : previewRefusal s kind yesNo fascn (length out) ≡ refusalOf (stampConditions (length out)) = preview-number-by (length out) ∙ rw e in
+          let k : previewRefusal s kind yesNo fascn (length out) ≡ refusalOf (stampConditions since (length out)) = preview-number-by (length out) ∙ rw e in
           preview-taken out z ∙ ap₂ (λ (n : ℕ) (l : List ℕ). (n, l)) (sym k) (stamp-unchanged (verdictTakenSession s kind yesNo fascn) out (λ y. f (k ∙ sym (stamp-on-taken (length out) z) ∙ y)) .1)
       go false e = preview-not-taken out (eqb-false _ 0 e) ∙ ap (λ (n : ℕ). (n, out)) (sym (preview-number-by (length out) ∙ rw e))
 
@@ -82,25 +82,25 @@ module _ (s : Session) (kind yesNo : ℕ) (fascn : List ℕ) where
       (e ∙ sym (preview-number-by (length out) ∙ rw (ne-eqb _ 0 none)), ap (λ (n : ℕ). (n, out)) e ∙ sym (preview-not-taken out none))
 
   -- it is taken, and the room gives a number
-  room-decides : (out : List ℕ) {j k : ℕ} {left : List ℕ} → j ≡ verdictRefusal s kind yesNo fascn → j ≡ 0 → k ≡ refusalOf (stampConditions (length out))
+  room-decides : (out : List ℕ) {j k : ℕ} {left : List ℕ} → j ≡ verdictRefusal s kind yesNo fascn → j ≡ 0 → k ≡ refusalOf (stampConditions since (length out))
       → left ≡ stampBuffer (verdictTakenSession s kind yesNo fascn) out → (k ≡ previewRefusal s kind yesNo fascn (length out)) × ((k, left) ≡ previewOf s kind yesNo fascn out)
   room-decides out e z r w =
       let taken = sym e ∙ z in
       (r ∙ sym (preview-number-by (length out) ∙ rw (eq-eqb _ 0 taken)), ap₂ (λ (n : ℕ) (l : List ℕ). (n, l)) r w ∙ sym (preview-taken out taken))
 
-  pub room-accepts : (out : List ℕ) {j k : ℕ} {left : List ℕ} → j ≡ verdictRefusal s kind yesNo fascn → j ≡ 0 → k ≡ refusalOf (stampConditions (length out)) → k ≡ 0
+  pub room-accepts : (out : List ℕ) {j k : ℕ} {left : List ℕ} → j ≡ verdictRefusal s kind yesNo fascn → j ≡ 0 → k ≡ refusalOf (stampConditions since (length out)) → k ≡ 0
       → left ≡ overFront (stampIn (verdictTakenSession s kind yesNo fascn)) out → (k ≡ previewRefusal s kind yesNo fascn (length out)) × ((k, left) ≡ previewOf s kind yesNo fascn out)
   room-accepts out e z r y w =
       room-decides out e z r (stamp-accepted (verdictTakenSession s kind yesNo fascn) out (r ∙ sym (stamp-on-taken (length out) (sym e ∙ z))) y w)
 
-  pub room-refuses : (out : List ℕ) {j k : ℕ} → j ≡ verdictRefusal s kind yesNo fascn → j ≡ 0 → k ≡ refusalOf (stampConditions (length out)) → (k ≡ 0 → ⊥)
+  pub room-refuses : (out : List ℕ) {j k : ℕ} → j ≡ verdictRefusal s kind yesNo fascn → j ≡ 0 → k ≡ refusalOf (stampConditions since (length out)) → (k ≡ 0 → ⊥)
       → (k ≡ previewRefusal s kind yesNo fascn (length out)) × ((k, out) ≡ previewOf s kind yesNo fascn out)
   room-refuses out e z r f =
       room-decides out e z r (stamp-refused (verdictTakenSession s kind yesNo fascn) out (r ∙ sym (stamp-on-taken (length out) (sym e ∙ z))) f)
 
 -- a buffer that 6 does not refuse has room for the stamp
-pub stamp-has-room : (room : ℕ) {k : ℕ} → k ≡ refusalOf (stampConditions room) → k ≡ 0 → stampSize ≤ room
-stamp-has-room room e z = ltb-false room stampSize (none-fit (stampConditions room) refl (sym e ∙ z) .0)
+pub stamp-has-room : (room : ℕ) {k : ℕ} → k ≡ refusalOf (stampConditions since room) → k ≡ 0 → stampSize since ≤ room
+stamp-has-room room e z = ltb-false room (stampSize since) (none-fit (stampConditions since room) refl (sym e ∙ z) .0)
 
 -- ---- in a reading
 

@@ -7,6 +7,7 @@ use Prim.Native.Nat.{ℕ, zero, suc}
 use native.Mathlib.Omega.{arith}
 use lib.Dec.{eqb}
 use lib.ListN.{length, getD}
+use Rattle.session.specs.Tables.{Figures, since}
 use Rattle.session.specs.Condition.{commandConditions, answerConditions, verdictConditions, stampConditions, previewConditions}
 use Rattle.session.specs.Reading.{hasNumber, Arguments, Reading, begins, nextCommand, commandRefused, answerRefused, verdictRefused, previewRefused, refusedBy, read, refusals}
 use Rattle.session.specs.Ranges.{inRange}
@@ -31,22 +32,22 @@ use Rattle.session.proofs.HistoryLaws.{with-call, call-finish, previews
 -- the host of a history has come to its reading
 pub reached : (h : History) → HostStandsFor (finish h) (readingOf h)
 unfolding opened
-reached h = on-list (h .calls) (begins (h .opening)) (h .object) (begins-holds (h .opening) (h .object) (h .good)) (h .lent)
+reached h = on-list (h .calls) (begins since (h .opening)) (h .object) (begins-holds (h .opening) (h .object) (h .good)) (h .lent)
 
-all-numbers : (h : History) → numbers (startHost h) (h .calls) ≡ refusals (begins (h .opening)) (argumentsIn h)
+all-numbers : (h : History) → numbers (startHost h) (h .calls) ≡ refusals (begins since (h .opening)) (argumentsIn h)
 unfolding opened
-all-numbers h = numbers-are (h .calls) (begins (h .opening)) (h .object) (begins-holds (h .opening) (h .object) (h .good)) (h .lent)
+all-numbers h = numbers-are (h .calls) (begins since (h .opening)) (h .object) (begins-holds (h .opening) (h .object) (h .good)) (h .lent)
 
 -- ---- number 4 is none of the reading's
 
 not-four : (r : Reading) (t : Arguments) → refusedBy r t ≡ 4 → ⊥
 unfolding commandRefused answerRefused verdictRefused previewRefused
 not-four r (Arguments.command room) e = not-named 4 (commandConditions (r .progress .step) (r .progress .cause) (r .progress .outstanding) room (length (nextCommand r))) refl e
-not-four r (Arguments.answer size bytes cancelled) e = not-named 4 (answerConditions (r .progress .outstanding) size (length bytes)) refl e
-not-four r (Arguments.verdict kind yesNo fascn) e = not-named 4 (verdictConditions (r .opening .mode) (r .progress .step) (r .outcomes) kind yesNo fascn) refl e
+not-four r (Arguments.answer size bytes cancelled) e = not-named 4 (answerConditions (r .figures) (r .progress .outstanding) size (length bytes)) refl e
+not-four r (Arguments.verdict kind yesNo fascn) e = not-named 4 (verdictConditions (r .figures) (r .opening .mode) (r .progress .step) (r .outcomes) kind yesNo fascn) refl e
 not-four r (Arguments.field size tag) e = let z : _≡_ {A = ℕ} 0 4 = e in omega arith
-not-four r (Arguments.stamp room) e = not-named 4 (stampConditions room) refl e
-not-four r (Arguments.preview kind yesNo fascn room) e = not-named 4 (previewConditions (r .opening .mode) (r .progress .step) (r .outcomes) kind yesNo fascn room) refl e
+not-four r (Arguments.stamp room) e = not-named 4 (stampConditions (r .figures) room) refl e
+not-four r (Arguments.preview kind yesNo fascn room) e = not-named 4 (previewConditions (r .figures) (r .opening .mode) (r .progress .step) (r .outcomes) kind yesNo fascn room) refl e
 
 never-four : (ts : List Arguments) (r : Reading) (i : ℕ) → getD (refusals r ts) i 0 ≡ 4 → ⊥
 never-four [] r i e = let z : _≡_ {A = ℕ} 0 4 = e in omega arith
@@ -80,9 +81,9 @@ stamp-next : (h : History) (out : List ℕ) → stampBuffer (finish h .session) 
 stamp-next h out = let a = reached h in ap (λ (x : Host). stampBuffer (x .session) out) (a .same) ∙ stamp-leaves (readingOf h) (a .object) out (a .holds)
 
 -- of a preview: the number of the verdict, and where that is 0 it is 6 or 0
-preview-by : (r : Reading) (kind yesNo : ℕ) (fascn : List ℕ) (room : ℕ) → previewRefused r kind yesNo fascn room ≡ cond (eqb (verdictRefused r kind yesNo fascn) 0) (refusalOf (stampConditions room)) (verdictRefused r kind yesNo fascn)
+preview-by : (r : Reading) (kind yesNo : ℕ) (fascn : List ℕ) (room : ℕ) → previewRefused r kind yesNo fascn room ≡ cond (eqb (verdictRefused r kind yesNo fascn) 0) (refusalOf (stampConditions (r .figures) room)) (verdictRefused r kind yesNo fascn)
 unfolding previewRefused verdictRefused
-preview-by r kind yesNo fascn room = refusal-append (verdictConditions (r .opening .mode) (r .progress .step) (r .outcomes) kind yesNo fascn) (stampConditions room) refl
+preview-by r kind yesNo fascn room = refusal-append (verdictConditions (r .figures) (r .opening .mode) (r .progress .step) (r .outcomes) kind yesNo fascn) (stampConditions (r .figures) room) refl
 
 -- the buffer of two calls, each with its number
 bytes-by : (b : Bool) (k n : ℕ) (x y : List ℕ) → (cond {A = ℕ × List ℕ} b (k, x) (n, y)) .1 ≡ cond b x y
@@ -100,11 +101,13 @@ preview-next : (h : History) (kind yesNo : ℕ) (fascn out : List ℕ) → previ
 unfolding previewOf
 preview-next h kind yesNo fascn out =
     let c = Call.verdict kind yesNo fascn in
-    let stamp : stampBuffer (verdictOf (finish h .session) kind yesNo fascn .1) out ≡ stampFor (readingWith h c) out =
-    ap (λ (x : Host). stampBuffer (x .session) out) (sym (call-finish h c tt)) ∙ stamp-next (with-call h c tt) out in
+    let by : Figures → List ℕ = λ f. cond (eqb (refusalOf (stampConditions f (length out))) 0) (overFront (stampOf (finding (readingWith h c))) out) out in
+    let stamp : stampBuffer (verdictOf (finish h .session) kind yesNo fascn .1) out ≡ by (readingOf h .figures) =
+    ap (λ (x : Host). stampBuffer (x .session) out) (sym (call-finish h c tt)) ∙ stamp-next (with-call h c tt) out
+    ∙ ap by (reached (with-call h c tt) .holds .figures ∙ sym (reached h .holds .figures)) in
     bytes-by (eqb (verdictOf (finish h .session) kind yesNo fascn .0) 0) _ _ _ _
     ∙ ap₂ (λ (n : ℕ) (l : List ℕ). cond (eqb n 0) l out) (number-next h c) stamp
-    ∙ both (verdictRefused (readingOf h) kind yesNo fascn) (refusalOf (stampConditions (length out))) (overFront (stampOf (finding (readingWith h c))) out) out
+    ∙ both (verdictRefused (readingOf h) kind yesNo fascn) (refusalOf (stampConditions (readingOf h .figures) (length out))) (overFront (stampOf (finding (readingWith h c))) out) out
     ∙ ap (λ (n : ℕ). cond (eqb n 0) (overFront (stampOf (finding (readingWith h c))) out) out) (sym (preview-by (readingOf h) kind yesNo fascn (length out)))
 
 -- ---- the promise
@@ -128,10 +131,10 @@ promise h =
       preview-bytes = preview-next h;
       previews-out = previews-out h;
       refused = all-numbers h;
-      never-four = λ n e. never-four (argumentsIn h) (begins (h .opening)) n (ap (λ (l : List ℕ). getD l n 0) (sym (all-numbers h)) ∙ e);
+      never-four = λ n e. never-four (argumentsIn h) (begins since (h .opening)) n (ap (λ (l : List ℕ). getD l n 0) (sym (all-numbers h)) ∙ e);
       in-range = ap inRange s ∙ in-range r m i;
       apart = λ u. stamps-iff r (readingOf u) m (reached u .object) i (reached u .holds);
       granted = granted-iff r m i;
-      answers-step = λ step. answers-step step (h .opening) (argumentsIn h);
-      answers-all = answers-all (h .opening) (argumentsIn h);
+      answers-step = λ step. answers-step step since (h .opening) (argumentsIn h);
+      answers-all = answers-all since (h .opening) (argumentsIn h);
     }

@@ -12,10 +12,10 @@ use Rattle.card.specs.Date.{realDate}
 use Rattle.card.specs.Command.{aidLeast, aidMost, goodAid}
 use Rattle.card.specs.Object.{empty, mostFields, rowsOf, partIn}
 use Rattle.card.specs.declared.object.Kind.{Kind}
-use Rattle.card.specs.declared.object.Kind.the-variants.{Signed, Unsigned, Fingers}
+use Rattle.card.specs.declared.object.Kind.the-variants.{Signed, Unsigned, Fingers, Picture}
 use Rattle.card.specs.declared.object.Part.{Part}
 use Rattle.common.proofs.ListsLaws.{all-at}
-use Rattle.session.specs.Tables.{modeInRange, baseOf, capacity, kindAt, objectSize}
+use Rattle.session.specs.Tables.{since, modeInRange, baseOf, capacity, kindAt, objectSize}
 use Rattle.session.specs.Ranges.{openingInRange, stepInRange, causeInRange, outstandingInRange, progressInRange, outcomesInRange, partInside, partsInside, cardInRange, inRange, outOfRange, rangedValues, valuesInRange}
 use Rattle.session.specs.Operation.{partFor}
 use Rattle.session.specs.declared.state.Session.{Session}
@@ -39,7 +39,7 @@ pub aid-in-range : (s : Session) → inRange s ≡ true → (aidLeast ≤ s .ope
 unfolding rangedValues
 aid-in-range s e =
     let n = s .opening .«aid_len» in
-    let fits : goodAid n ≡ true = and-parts (modeInRange (s .opening .mode) && realDate (s .opening .date)) _ (groups-in-range s e .0 .0) .1 in
+    let fits : goodAid n ≡ true = and-parts (modeInRange since (s .opening .mode) && realDate (s .opening .date)) _ (groups-in-range s e .0 .0) .1 in
     let h = and-parts (leb aidLeast n) (leb n aidMost) fits in
     (leb-true aidLeast n (h .0), leb-true n aidMost (h .1))
 
@@ -83,6 +83,7 @@ unfolding rowsOf
 rows-most Signed = omega arith
 rows-most Unsigned = omega arith
 rows-most Fingers = omega arith
+rows-most Picture = omega arith
 
 parts-end : (base : ℕ) (k : Kind) (ps : List Part) (tag : ℕ) → base ≤ objectSize → partsInside base ps ≡ true
     → let p = partIn (rowsOf k) ps tag in base + (p .start + p .len) ≤ objectSize

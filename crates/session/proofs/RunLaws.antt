@@ -42,7 +42,7 @@ answer-refusal-is r m object bytes cancelled i = rw (answer-number r m (length o
 
 verdict-number : (r : Reading) (m : List ℕ) (kind yesNo : ℕ) (fascn : List ℕ) → Invariant r m → verdictRefusal (session-of r) kind yesNo fascn ≡ verdictRefused r kind yesNo fascn
 unfolding verdictRefusal verdictRefused
-verdict-number r m kind yesNo fascn i = rw (in-range r m i)
+verdict-number r m kind yesNo fascn i = rw (in-range r m i, i .figures)
 
 verdict-gives : (r : Reading) (m : List ℕ) (kind yesNo : ℕ) (fascn : List ℕ) → Invariant r m
     → verdictOf (session-of r) kind yesNo fascn ≡ cond (eqb (verdictRefused r kind yesNo fascn) 0) (0, session-of (verdictTaken r kind yesNo fascn)) (verdictRefused r kind yesNo fascn, session-of r)
@@ -52,13 +52,13 @@ verdict-gives r m kind yesNo fascn i = rw (verdict-number r m kind yesNo fascn i
 verdict-refused : (r : Reading) (m : List ℕ) (kind yesNo : ℕ) (fascn : List ℕ) → Invariant r m → verdictOf (session-of r) kind yesNo fascn .0 ≡ verdictRefused r kind yesNo fascn
 verdict-refused r m kind yesNo fascn i = rw (verdict-gives r m kind yesNo fascn i) (zero-or (verdictRefused r kind yesNo fascn) _ _ _ refl)
 
-pub stamp-number : (r : Reading) (m : List ℕ) (room : ℕ) → Invariant r m → stampRefusal (session-of r) room ≡ refusalOf (stampConditions room)
+pub stamp-number : (r : Reading) (m : List ℕ) (room : ℕ) → Invariant r m → stampRefusal (session-of r) room ≡ refusalOf (stampConditions (r .figures) room)
 unfolding stampRefusal
-stamp-number r m room i = rw (in-range r m i)
+stamp-number r m room i = rw (in-range r m i, i .figures)
 
 preview-refused : (r : Reading) (m : List ℕ) (kind yesNo : ℕ) (fascn : List ℕ) (room : ℕ) → Invariant r m → previewRefusal (session-of r) kind yesNo fascn room ≡ previewRefused r kind yesNo fascn room
 unfolding previewRefusal previewRefused
-preview-refused r m kind yesNo fascn room i = rw (in-range r m i)
+preview-refused r m kind yesNo fascn room i = rw (in-range r m i, i .figures)
 
 pub number-is : (r : Reading) (m : List ℕ) (c : Call) → Invariant r m → callNumber (host-of r m) c ≡ refusedBy r (argumentsOf c)
 unfolding stampAnswer

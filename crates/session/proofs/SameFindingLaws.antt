@@ -11,7 +11,7 @@ use lib.ListN.{length, length-append}
 use lib.Seq.{set-comm}
 use Rattle.common.specs.Lists.{all, sameBytes}
 use Rattle.card.specs.Command.{statusOf}
-use Rattle.session.specs.Tables.{goodKind, capacity, NextCommand, isResponse, ruleCause, joinedCause}
+use Rattle.session.specs.Tables.{since, goodKind, capacity, NextCommand, isResponse, ruleCause, joinedCause}
 use Rattle.session.specs.Reading.{Reading, withProgress, sending, continued, goodEnd, judged, answerTaken, verdictTaken}
 use Rattle.session.specs.Finding.{finding}
 use Rattle.common.proofs.TestLaws.{by-test}
@@ -63,7 +63,7 @@ cut-anywhere r xs ys cancelled other second h e =
 -- ---- the order of verdicts
 
 -- Two verdicts of two kinds give one finding in either order.
-pub either-order : (r : Reading) (k s l t : ℕ) (f g : List ℕ) → goodKind k ≡ true → goodKind l ≡ true → (k ≡ l → ⊥)
+pub either-order : (r : Reading) (k s l t : ℕ) (f g : List ℕ) → goodKind since k ≡ true → goodKind since l ≡ true → (k ≡ l → ⊥)
     → Alike (verdictTaken (verdictTaken r k s f) l t g) (verdictTaken (verdictTaken r l t g) k s f)
 unfolding finding
 either-order r k s l t f g p q n = rw (set-comm (r .outcomes) (place-of k) (place-of l) _ _ (λ z. n (places-apart k l p q z)))

@@ -1,4 +1,4 @@
--- The stamp: a session's is that of its reading's finding, it has 45 bytes, and two are equal exactly where the findings are.
+-- The stamp: a session's is that of its reading's finding, it has 46 bytes, and two are equal exactly where the findings are.
 -- Assumes nothing.
 use mathlib.Core.Path.{_≡_, refl, sym, ap, ap₂, _∙_}
 use mathlib.Core.Bool.{Bool, true, false, not, _&&_}
@@ -17,7 +17,7 @@ use Rattle.card.specs.Date.{daysIn, realDate}
 use Rattle.card.specs.Command.{aidRefused}
 use Rattle.card.proofs.FascnLaws.{well-formed, unpack-pack}
 use Rattle.card.proofs.DateLaws.{date-real}
-use Rattle.session.specs.Tables.{modeInRange, fascnRead, numberSize, stampSize, fourBytes, stampLayout}
+use Rattle.session.specs.Tables.{since, modeInRange, fascnRead, numberSize, stampSize, fourBytes, stampLayout}
 use Rattle.session.specs.Reading.{StepOne, Found, Reading, ownFascn}
 use Rattle.session.specs.Finding.{Finding, digitsFound, expiryFound, finding, standing, fascnStamped, expiryStamped, stampOf}
 use Rattle.session.specs.Operation.{stampHead, stampIn}
@@ -84,17 +84,17 @@ read-by step f (Stage.between l x e) = ap (λ (y : Found). has (y .step1)) e ∙
 read-by step f (Stage.late l x e) = ap has e ∙ sym (le-leb 2 step (omega arith))
 
 date-small : (r : Reading) (m : List ℕ) → Invariant r m → r .opening .date < 2 ^ 32
-date-small r m i = real-small (r .opening .date) (and-right (modeInRange (r .opening .mode)) _ (and-left _ (not (aidRefused (r .opening .aid))) (i .opening)))
+date-small r m i = real-small (r .opening .date) (and-right (modeInRange since (r .opening .mode)) _ (and-left _ (not (aidRefused (r .opening .aid))) (i .opening)))
 
 layout-length : (a o f : List ℕ) (d x : ℕ) → length (stampLayout a o d f x) ≡ length a + length o + numberSize + length f + numberSize
 unfolding stampLayout
 layout-length a o f d x = simp length-append
 
--- a stamp has 45 bytes
-pub stamp-length : (r : Reading) (m : List ℕ) → Invariant r m → length (stampOf (finding r)) ≡ stampSize
+-- a stamp has 46 bytes
+pub stamp-length : (r : Reading) (m : List ℕ) → Invariant r m → length (stampOf (finding r)) ≡ stampSize since
 unfolding stampIn stampHead stampSize
 stamp-length r m i =
-    rw (← stamp-is r m i, layout-length, i .judged .six, fascn-long (r .opening .mode) (r .found .step1) m (i .one)) refl
+    rw (← stamp-is r m i, layout-length, i .judged .counted, fascn-long (r .opening .mode) (r .found .step1) m (i .one)) refl
 
 -- ---- equal stamps
 
@@ -160,7 +160,7 @@ unfolding stampIn stampHead finding
 same-finding r s m n i j e =
     let f = r .found .step1 in
     let g = s .found .step1 in
-    let p = layout-same _ (r .outcomes) _ _ (s .outcomes) _ (r .opening .date) _ (s .opening .date) _ refl (i .judged .six ∙ sym (j .judged .six))
+    let p = layout-same _ (r .outcomes) _ _ (s .outcomes) _ (r .opening .date) _ (s .opening .date) _ refl (i .judged .counted ∙ sym (j .judged .counted))
     (fascn-long _ f m (i .one) ∙ sym (fascn-long _ g n (j .one))) (stamp-is r m i ∙ e ∙ sym (stamp-is s n j)) in
     let head = p .0 in
     let step : r .progress .step ≡ s .progress .step = at 5 head in

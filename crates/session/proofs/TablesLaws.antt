@@ -9,7 +9,7 @@ use lib.Dec.{eqb}
 use lib.ListN.{length, getD, take, drop}
 use lib.Seq.{drop-cons}
 use Rattle.card.specs.Object.{rowTag, endTag, rowsOf}
-use Rattle.card.specs.declared.object.Kind.the-variants.{Signed, Unsigned, Fingers}
+use Rattle.card.specs.declared.object.Kind.the-variants.{Signed, Unsigned, Fingers, Picture}
 use Rattle.session.specs.Tables.{failed, otherCard, lowestFrom, step1Tags, step2Tags}
 
 -- a field call may ask for every field of an object but the last, FE; those of an unsigned object are the first seven of step 1's tags
@@ -25,7 +25,14 @@ pub fingers-asked : map rowTag (rowsOf Fingers) ≡ step2Tags ++ (endTag ∷ [])
 unfolding rowsOf
 fingers-asked = refl
 
--- six tests, one of which passes, as code and definition group them
+pub picture-asked : map rowTag (rowsOf Picture) ≡ step2Tags ++ (endTag ∷ [])
+unfolding rowsOf
+picture-asked = refl
+
+-- five and six tests, one of which passes, as code and definition group them
+pub five : (a b c d e : Bool) → ((((a || b) || c) || d) || e) ≡ (a || (b || (c || (d || (e || false)))))
+five a b c d e = simp (or-assoc, or-false)
+
 pub six : (a b c d e f : Bool) → (((((a || b) || c) || d) || e) || f) ≡ (a || (b || (c || (d || (e || (f || false))))))
 six a b c d e f = simp (or-assoc, or-false)
 

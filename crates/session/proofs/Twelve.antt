@@ -61,12 +61,12 @@ template : List ℕ
 template = 0x61 ∷ 0x08 ∷ 0x4F ∷ 0x06 ∷ 0x20 ∷ 0x00 ∷ 0x00 ∷ 0x01 ∷ 0x01 ∷ 0x03 ∷ 0x90 ∷ 0x00 ∷ []
 
 answered-by : List ℕ → List Arguments → List Arguments
-answered-by bytes ts = Arguments.command 261 ∷ Arguments.answer 8192 bytes [] ∷ ts
+answered-by bytes ts = Arguments.command 261 ∷ Arguments.answer 20480 bytes [] ∷ ts
 
 example : ℕ → Reading
 unfolding answered-by template opening sample fields
 example date =
-    reading (begins (opening date))
+    reading (begins tables.since (opening date))
     (answered-by template
     (answered-by ((0x53 ∷ 0x27 ∷ []) ++ fields ++ (0x90 ∷ 0x00 ∷ []))
     (Arguments.verdict 3 1 (sample ++ (0xe2 ∷ [])) ∷ [])))
@@ -93,7 +93,7 @@ older =
 -- What a field call gives once this object is read.
 older-field : ℕ → List ℕ
 unfolding answered-by template opening older
-older-field tag = fieldIn (reading (begins (opening 20110410)) (answered-by template (answered-by (older ++ (0x90 ∷ 0x00 ∷ [])) []))) tag
+older-field tag = fieldIn (reading (begins tables.since (opening 20110410)) (answered-by template (answered-by (older ++ (0x90 ∷ 0x00 ∷ [])) []))) tag
 
 -- Whether a session in mode 4 is in range that has this part at a place among those of step 1, the other parts of step 1 empty, and this part of step 2: 1 for in range.
 with-parts : ℕ → Part → Part → List ℕ
@@ -104,12 +104,12 @@ with-parts i one two =
 -- The command after so many calls.
 next-after : List Arguments → List ℕ
 unfolding opening
-next-after calls = nextCommand (reading (begins (opening 20110410)) calls)
+next-after calls = nextCommand (reading (begins tables.since (opening 20110410)) calls)
 
 -- What the definitions give, beside what documents 01 and 02 say. Document 01: a, its check value, b, c; d, e, f, g; h, with 53 27 and with 53 81 27, where all starts are one more; i; j and k,
--- the outcome of check 3 where the example is opened on its expiry, 20110410, and a day later; l; the example's stamp. Request 1 of document 02: the command after 6C 0D to SELECT, after
+-- the outcome of check 3 where the example is opened on its expiry, 20110410, and a day later; l; the example's stamp, "with outcome 7 after outcome 6". Request 1 of document 02: the command after 6C 0D to SELECT, after
 -- 61 0D to that, after 6C 08 to the GET RESPONSE, and after 6C 29 to GET DATA. Request 5: the places of 30, 34 and 35 in the object
--- with the older elements; what a field call gives of it for EE, 30, 31, 32, 33, 34, which is absent, and 35; and the session's range "field parts inside 8,192", with the first and the last part of step 1 and that of step 2, which begins at 4,096: they end at 8,192,
+-- with the older elements; what a field call gives of it for EE, 30, 31, 32, 33, 34, which is absent, and 35; and the session's range "field parts inside 20,480" (request 7), with the first and the last part of step 1 and that of step 2, which begins at 4,096: they end at 20,480,
 -- or one of them a byte past it.
 pub table : List (List ℕ × List ℕ)
 unfolding sample digits fields opening template answered-by next-after buffer-length agency organization duns older-field with-parts
@@ -128,7 +128,7 @@ table =
     ∷ (tables.outcomeOf (example 20110410 .outcomes) 3 ∷ [], 2 ∷ [])
     ∷ (tables.outcomeOf (example 20110411 .outcomes) 3 ∷ [], 3 ∷ [])
     ∷ (next-after (answered-by (0x61 ∷ 0x00 ∷ []) []), 0x00 ∷ 0xC0 ∷ 0x00 ∷ 0x00 ∷ 0x00 ∷ [])
-    ∷ (stampOf (finding (example 20110410)), (0x02 ∷ 0x01 ∷ 0x00 ∷ 0x00 ∷ 0x00 ∷ 0x03 ∷ 0x00 ∷ 0x00 ∷ 0x02 ∷ 0x02 ∷ 0x02 ∷ 0x00 ∷ 0x01 ∷ 0x32 ∷ 0xDC ∷ 0x4A ∷ []) ++ sample ++ (0xe2 ∷ 0x01 ∷ 0x32 ∷ 0xDC ∷ 0x4A ∷ []))
+    ∷ (stampOf (finding (example 20110410)), (0x02 ∷ 0x01 ∷ 0x00 ∷ 0x00 ∷ 0x00 ∷ 0x03 ∷ 0x00 ∷ 0x00 ∷ 0x02 ∷ 0x02 ∷ 0x02 ∷ 0x00 ∷ 0x00 ∷ 0x01 ∷ 0x32 ∷ 0xDC ∷ 0x4A ∷ []) ++ sample ++ (0xe2 ∷ 0x01 ∷ 0x32 ∷ 0xDC ∷ 0x4A ∷ []))
     ∷ (next-after (answered-by (0x6C ∷ 0x0D ∷ []) []), 0x00 ∷ 0xA4 ∷ 0x04 ∷ 0x00 ∷ 0x0B ∷ 0xA0 ∷ 0x00 ∷ 0x00 ∷ 0x03 ∷ 0x67 ∷ 0x20 ∷ 0x00 ∷ 0x00 ∷ 0x01 ∷ 0x01 ∷ 0x03 ∷ 0x0D ∷ [])
     ∷ (next-after (answered-by (0x6C ∷ 0x0D ∷ []) (answered-by (0x61 ∷ 0x0D ∷ []) [])), 0x00 ∷ 0xC0 ∷ 0x00 ∷ 0x00 ∷ 0x0D ∷ [])
     ∷ (next-after (answered-by (0x6C ∷ 0x0D ∷ []) (answered-by (0x61 ∷ 0x0D ∷ []) (answered-by (0x6C ∷ 0x08 ∷ []) []))), 0x00 ∷ 0xC0 ∷ 0x00 ∷ 0x00 ∷ 0x08 ∷ [])
@@ -141,11 +141,11 @@ table =
     ∷ (older-field 0x33, duns)
     ∷ (older-field 0x34, [])
     ∷ (older-field 0x35, 0x32 ∷ 0x30 ∷ 0x31 ∷ 0x31 ∷ 0x30 ∷ 0x34 ∷ 0x31 ∷ 0x30 ∷ [])
-    ∷ (with-parts 0 (part 8191 1) (part 4095 1), 1 ∷ [])
-    ∷ (with-parts 8 (part 8191 1) (part 4095 1), 1 ∷ [])
-    ∷ (with-parts 0 (part 8191 2) empty, 0 ∷ [])
-    ∷ (with-parts 8 (part 8191 2) empty, 0 ∷ [])
-    ∷ (with-parts 0 empty (part 4095 2), 0 ∷ [])
+    ∷ (with-parts 0 (part 20479 1) (part 16383 1), 1 ∷ [])
+    ∷ (with-parts 8 (part 20479 1) (part 16383 1), 1 ∷ [])
+    ∷ (with-parts 0 (part 20479 2) empty, 0 ∷ [])
+    ∷ (with-parts 8 (part 20479 2) empty, 0 ∷ [])
+    ∷ (with-parts 0 empty (part 16383 2), 0 ∷ [])
     ∷ []
 
 pub twelve : map (λ row. row .0) table ≡ map (λ row. row .1) table

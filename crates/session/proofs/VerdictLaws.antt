@@ -1,6 +1,6 @@
 -- The verdict call: one that is accepted sets its check's outcome and no other, and what holds goes on to hold.
 -- Assumes nothing.
-use mathlib.Core.Path.{_≡_, refl, sym, _∙_}
+use mathlib.Core.Path.{_≡_, refl, sym, ap, _∙_}
 use mathlib.Core.Bool.{Bool, true, false}
 use mathlib.Core.Option.{Option}
 use mathlib.Core.List.{List, _∷_}
@@ -10,7 +10,7 @@ use lib.Dec.{eqb, leb}
 use lib.ListN.{length, set, length-set}
 use lib.Seq.{getD-set-same, getD-set-other}
 use borrow.Author.Tests.{leb-true, eqb-true, eqb-false, eq-eqb, not-false}
-use Rattle.session.specs.Tables.{goodKind, needs, checkServed, outcomeOf, verdictOutcome}
+use Rattle.session.specs.Tables.{Figures, since, goodKind, needs, checkServed, outcomeOf, verdictOutcome}
 use Rattle.session.specs.Condition.{verdictConditions}
 use Rattle.session.specs.Reading.{Opening, StepOne, Verdict, Found, Reading, ownFascn, verdictRefused, verdictTaken}
 use Rattle.session.specs.Finding.{verdictOn}
@@ -37,7 +37,7 @@ stage-stays step f g e h (Stage.between l one s) = absurd (omega arith)
 stage-stays step f g e h (Stage.late l one s) = Stage.late l one (h ∙ s)
 
 module _ (a : Opening) (o : List ℕ) (f : Found) (kind yesNo : ℕ) (fascn : List ℕ) (j : Judged a o f)
-    (good : goodKind kind ≡ true) (bit : yesNo ≤ 1) (needed : needs (a .mode) (checkServed kind) ≡ true) where
+    (good : goodKind since kind ≡ true) (bit : yesNo ≤ 1) (needed : needs (a .mode) (checkServed kind) ≡ true) where
   abbrev outcome : ℕ
   outcome = verdictOutcome (ownFascn (a .mode) (f .step1)) yesNo fascn
 
@@ -48,10 +48,10 @@ module _ (a : Opening) (o : List ℕ) (f : Found) (kind yesNo : ℕ) (fascn : Li
   verdict = record { kind = kind; yesNo = yesNo; fascn = fascn }
 
   inside : place-of kind < length o
-  inside = rw (j .six) (placed kind good .low)
+  inside = rw (j .counted) (placed kind good .low)
 
   -- of the kind of the verdict, and of another
-  verdict-on : (k : ℕ) → goodKind k ≡ true → (b : Bool) → eqb kind k ≡ b
+  verdict-on : (k : ℕ) → goodKind since k ≡ true → (b : Bool) → eqb kind k ≡ b
       → VerdictGave k (needs (a .mode) (checkServed k)) (ownFascn (a .mode) (f .step1)) (verdictOn k (verdict ∷ f .verdicts)) (outcomeOf outcomes (checkServed k))
   unfolding verdictOn
   verdict-on k g true e =
@@ -63,7 +63,7 @@ module _ (a : Opening) (o : List ℕ) (f : Found) (kind yesNo : ℕ) (fascn : Li
   judged-on : Judged a outcomes (record { step1 = f .step1; step2 = f .step2; verdicts = verdict ∷ f .verdicts })
   judged-on =
       record {
-        six = length-set o (place-of kind) outcome ∙ j .six;
+        counted = length-set o (place-of kind) outcome ∙ j .counted;
         small = set-in-range o (place-of kind) outcome (verdict-small (ownFascn (a .mode) (f .step1)) yesNo fascn) (j .small);
         verdicts = λ k g. verdict-on k g (eqb kind k) refl;
         expiry = expiry-stays (a .mode) (a .date) o outcomes (f .step1) (getD-set-other o (place-of kind) 2 outcome 0 (placed kind good .not-expiry)) (j .expiry);
@@ -73,12 +73,13 @@ module _ (a : Opening) (o : List ℕ) (f : Found) (kind yesNo : ℕ) (fascn : Li
 pub on-verdict : (r : Reading) (m : List ℕ) (kind yesNo : ℕ) (fascn : List ℕ) → Invariant r m → verdictRefused r kind yesNo fascn ≡ 0 → Invariant (verdictTaken r kind yesNo fascn) m
 unfolding verdictRefused
 on-verdict r m kind yesNo fascn i e =
-    let c = none-fit (verdictConditions (r .opening .mode) (r .progress .step) (r .outcomes) kind yesNo fascn) refl e in
+    let c = none-fit (verdictConditions (r .figures) (r .opening .mode) (r .progress .step) (r .outcomes) kind yesNo fascn) refl e in
     let last : r .progress .step ≡ 3 = eqb-true (r .progress .step) 3 (not-false (eqb (r .progress .step) 3) (c .0)) in
-    let good : goodKind kind ≡ true = not-false (goodKind kind) (c .1 .0) in
+    let good : goodKind since kind ≡ true = ap (λ (f : Figures). goodKind f kind) (sym (i .figures)) ∙ not-false (goodKind (r .figures) kind) (c .1 .0) in
     let bit : yesNo ≤ 1 = leb-true yesNo 1 (not-false (leb yesNo 1) (c .1 .1 .0)) in
     let needed = not-false (needs (r .opening .mode) (checkServed kind)) (c .1 .1 .1 .1 .0) in
     record {
+      figures = i .figures;
       opening = i .opening;
       progress-good = i .progress-good;
       held = i .held;

@@ -1,5 +1,5 @@
--- The finding of a reading (document 01: "mode, opening date, step, cause, status word, six outcomes, FASC-N digits and expiry"), its standing, the 45 bytes of its
--- stamp, and what granted means of the calls.
+-- The finding of a reading (document 01: "mode, opening date, step, cause, status word, six outcomes, FASC-N digits and expiry"; since request 7 of document 02 "seven outcomes, in all
+-- six modes"), its standing, the bytes of its stamp, and what granted means of the calls.
 -- Assumes nothing.
 use mathlib.Core.Path.{_≡_}
 use mathlib.Core.Bool.{true, false, cond}
@@ -82,5 +82,5 @@ pub record Granted (r : Reading) : Type 0 where
   pub read : r .found .step1 ≡ Option.some one
   pub in-time : r .opening .date ≤ expiryRead (r .opening .mode) (one .joined)
   pub not-listed : isIn (keyRead (r .opening .mode) (one .joined)) (one .cancelled) ≡ false
-  pub verdicts : (kind : ℕ) → goodKind kind ≡ true → needs (r .opening .mode) (checkServed kind) ≡ true
+  pub verdicts : (kind : ℕ) → goodKind (r .figures) kind ≡ true → needs (r .opening .mode) (checkServed kind) ≡ true
       → verdictOn kind (r .found .verdicts) ≡ Option.some (record { kind = kind; yesNo = 1; fascn = fascnRead (r .opening .mode) (one .joined) })

@@ -7,13 +7,13 @@ use lib.Dec.{eqb}
 use lib.ListN.{length, getD, take, drop, replicate}
 use Rattle.common.specs.Lists.{overFront, overPlaces}
 use Rattle.common.specs.Refusal.{refusalOf}
-use Rattle.card.specs.Object.{fingersTag, empty, mostFields, rowsOf, objectOf, partIn, bytesAt, fieldPart}
+use Rattle.card.specs.Object.{biometricTag, empty, mostFields, rowsOf, objectOf, partIn, bytesAt, fieldPart}
 use Rattle.card.specs.Fascn.{fascnBytes}
 use Rattle.card.specs.Command.{aidMost, statusOf}
 use Rattle.card.specs.declared.object.Part.{Part}
 use Rattle.card.specs.declared.command.Status.{Status}
 use Rattle.card.specs.declared.command.Status.the-variants.{Done, More, Again, Other}
-use Rattle.session.specs.Tables.{checks, checkServed, withOutcome, neededOutcomes, verdictOutcome, causeOf, standingOf, kindAt, stepAfter, baseOf, capacity, stepOfTag, NextCommand, commandBytes, dataOf, statusBytes, ruleCause, statusShown, fascnRead, expiryRead, judgedOutcomes, joinedCause, headOf, stampLayout}
+use Rattle.session.specs.Tables.{since, checks, checkServed, withOutcome, neededOutcomes, verdictOutcome, causeOf, standingOf, kindAt, stepAfter, baseOf, capacity, stepOfTag, NextCommand, commandBytes, dataOf, statusBytes, ruleCause, statusShown, fascnRead, expiryRead, judgedOutcomes, joinedCause, headOf, stampLayout}
 use Rattle.session.specs.Condition.{openConditions, commandConditions, answerConditions, verdictConditions, fieldRefused, stampConditions, previewConditions}
 use Rattle.session.specs.Ranges.{outOfRange}
 use Rattle.session.specs.declared.state.SessionProgress.{SessionProgress}
@@ -78,12 +78,12 @@ opened mode date aid =
     record {
       opening = record { mode = mode; date = date; aid = overFront aid (replicate aidMost 0); «aid_len» = length aid };
       progress = progressAtStep 0;
-      outcomes = neededOutcomes mode;
+      outcomes = neededOutcomes since mode;
       card = noCard;
     }
 
 unfoldable pub openRefusal : ℕ → ℕ → List ℕ → ℕ
-openRefusal mode date aid = refusalOf (openConditions mode date aid)
+openRefusal mode date aid = refusalOf (openConditions since mode date aid)
 
 unfoldable pub openOf : ℕ → ℕ → List ℕ → ℕ × Session
 openOf mode date aid = cond (eqb (openRefusal mode date aid) 0) (0, opened mode date aid) (openRefusal mode date aid, dead)
@@ -134,7 +134,7 @@ commandBuffer s out = cond (eqb (commandRefusal s (length out)) 0) (overFront (c
 -- ---- answer
 
 unfoldable pub answerRefusal : Session → ℕ → ℕ → ℕ
-answerRefusal s size n = refusalOf ((4, outOfRange s) ∷ answerConditions (s .progress .outstanding) size n)
+answerRefusal s size n = refusalOf ((4, outOfRange s) ∷ answerConditions since (s .progress .outstanding) size n)
 
 -- A cause ends the reading, with so many bytes of the step's data in the object buffer.
 abbrev pub progressStopped : SessionProgress → ℕ → ℕ → ℕ → ℕ → SessionProgress
@@ -171,7 +171,7 @@ unfoldable pub goodEndSession : Session → List ℕ → List ℕ → Session
 goodEndSession s joined cancelled =
     let mode = s .opening .mode in
     cond (eqb (s .progress .step) 0) (withSessionProgress s (progressAtStep (stepAfter mode 0)))
-    (cond (eqb (s .progress .step) 1) (step1EndSession s joined cancelled) (step2EndSession s (fieldPart (kindAt mode (s .progress .step)) fingersTag joined)))
+    (cond (eqb (s .progress .step) 1) (step1EndSession s joined cancelled) (step2EndSession s (fieldPart (kindAt mode (s .progress .step)) biometricTag joined)))
 
 -- The step's joined data is judged.
 unfoldable pub judgedSession : Session → List ℕ → List ℕ → Session
@@ -224,7 +224,7 @@ answerBuffer s object bytes =
 
 unfoldable pub verdictRefusal : Session → ℕ → ℕ → List ℕ → ℕ
 verdictRefusal s kind yesNo fascn =
-    refusalOf ((4, outOfRange s) ∷ verdictConditions (s .opening .mode) (s .progress .step) (s .outcomes) kind yesNo fascn)
+    refusalOf ((4, outOfRange s) ∷ verdictConditions since (s .opening .mode) (s .progress .step) (s .outcomes) kind yesNo fascn)
 
 unfoldable pub verdictTakenSession : Session → ℕ → ℕ → List ℕ → Session
 verdictTakenSession s kind yesNo fascn =
@@ -250,12 +250,12 @@ partFor s step tag = cond (eqb step 2) (s .card .step2) (partIn (rowsOf (kindAt 
 unfoldable pub fieldOf : Session → List ℕ → ℕ → List ℕ
 fieldOf s object tag =
     let step = stepOfTag tag in
-    cond (outOfRange s || fieldRefused (s .opening .mode) (s .progress .step) (length object) tag) [] (bytesAt (drop (baseOf step) object) (partFor s step tag))
+    cond (outOfRange s || fieldRefused since (s .opening .mode) (s .progress .step) (length object) tag) [] (bytesAt (drop (baseOf step) object) (partFor s step tag))
 
 -- ---- stamp
 
 unfoldable pub stampRefusal : Session → ℕ → ℕ
-stampRefusal s room = refusalOf ((4, outOfRange s) ∷ stampConditions room)
+stampRefusal s room = refusalOf ((4, outOfRange s) ∷ stampConditions since room)
 
 -- Mode, standing, cause, status word and step.
 unfoldable pub stampHead : Session → List ℕ
@@ -277,7 +277,7 @@ stampBuffer s out = cond (eqb (stampRefusal s (length out)) 0) (overFront (stamp
 
 unfoldable pub previewRefusal : Session → ℕ → ℕ → List ℕ → ℕ → ℕ
 previewRefusal s kind yesNo fascn room =
-    refusalOf ((4, outOfRange s) ∷ previewConditions (s .opening .mode) (s .progress .step) (s .outcomes) kind yesNo fascn room)
+    refusalOf ((4, outOfRange s) ∷ previewConditions since (s .opening .mode) (s .progress .step) (s .outcomes) kind yesNo fascn room)
 
 -- "a verdict call on a copy of the session, followed by a stamp call": where the verdict call is accepted the number of the stamp call and the lent buffer as that leaves it; where
 -- it is refused its number, and the buffer as it was. No session is handed back. The number is `previewRefusal` (`two-calls-number`, proofs/PreviewLaws.antt).

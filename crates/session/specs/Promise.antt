@@ -1,4 +1,4 @@
--- Demand 3, with requests 1 and 6 of document 02. A host makes any list of calls, one after another, from a session freshly opened; what then holds of the stamp, command,
+-- Demand 3, with requests 1, 6 and 7 of document 02. A host makes any list of calls, one after another, from a session freshly opened; what then holds of the stamp, command,
 -- field and preview call made next, of every call of the list, of the list with previews taken out, and of two such lists. The run goes by the definitions that the contracts
 -- cite; the reading is fed the calls' arguments, and never a result.
 -- Assumes nothing.
@@ -12,7 +12,7 @@ use lib.ListN.{length, getD, take}
 use Rattle.common.specs.Lists.{overFront}
 use Rattle.card.specs.Date.{realDate}
 use Rattle.card.specs.Command.{aidRefused}
-use Rattle.session.specs.Tables.{modeInRange, standsGranted, answersMost, stampSize}
+use Rattle.session.specs.Tables.{Figures, since, modeInRange, standsGranted, answersMost, stampSize}
 use Rattle.session.specs.Ranges.{inRange}
 use Rattle.session.specs.Operation.{replyNumber, opened, commandOf, commandBuffer, answerRefusal, answerOf, answerBuffer, verdictOf, fieldOf, stampAnswer, stampBuffer, previewOf}
 use Rattle.session.specs.Reading.{Opening, Arguments, Reading, begins, nextCommand, hasNumber, refusedBy, reading, refusals, fieldIn, fieldFor, answersIn, answers}
@@ -98,15 +98,15 @@ Lent h (c ∷ cs) = LentNow h c × Lent (hostAfter h c) cs
 
 -- ---- a history: a good opening, any first content of the object buffer, and a list of calls
 
-abbrev pub goodOpening : Opening → Bool
-goodOpening o = (modeInRange (o .mode) && realDate (o .date)) && not (aidRefused (o .aid))
+abbrev pub goodOpening : Figures → Opening → Bool
+goodOpening f o = (modeInRange f (o .mode) && realDate (o .date)) && not (aidRefused (o .aid))
 
 abbrev pub host : Opening → List ℕ → Host
 host o object = record { session = opened (o .mode) (o .date) (o .aid); object = object }
 
 pub record History : Type 0 where
   pub opening : Opening
-  pub good : goodOpening opening ≡ true
+  pub good : goodOpening since opening ≡ true
   pub object : List ℕ
   pub calls : List Call
   pub lent : Lent (host opening object) calls
@@ -122,11 +122,11 @@ abbrev pub argumentsIn : History → List Arguments
 argumentsIn h = map argumentsOf (h .calls)
 
 abbrev pub readingOf : History → Reading
-readingOf h = reading (begins (h .opening)) (argumentsIn h)
+readingOf h = reading (begins since (h .opening)) (argumentsIn h)
 
 -- The reading of the list with a call at its end.
 abbrev pub readingWith : History → Call → Reading
-readingWith h c = reading (begins (h .opening)) (map argumentsOf (h .calls ++ (c ∷ [])))
+readingWith h c = reading (begins since (h .opening)) (map argumentsOf (h .calls ++ (c ∷ [])))
 
 -- ---- what each call of a list gives, and the list with previews taken out
 
@@ -212,7 +212,7 @@ previewFor h kind yesNo fascn out =
     (overFront (stampOf (finding (readingWith h (Call.verdict kind yesNo fascn)))) out) out
 
 pub record Promise (h : History) : Type 0 where
-  -- a: a stamp call made next is refused by the reading's number, or writes the 45 bytes of the finding and leaves the rest
+  -- a: a stamp call made next is refused by the reading's number, or writes the 46 bytes of the finding and leaves the rest
   pub stamp-number : (out : List ℕ) → callNumber (finish h) (Call.stamp out) ≡ refusedBy (readingOf h) (Arguments.stamp (length out))
   pub stamp-bytes : (out : List ℕ) → stampBuffer (finish h .session) out ≡ stampFor (readingOf h) out
   -- b: a command call made next is refused by the reading's number, or writes the reading's next command and gives its count
@@ -224,17 +224,17 @@ pub record Promise (h : History) : Type 0 where
   -- where the reading has none, or the buffer lent has another size, the part is empty, whatever is in it
   pub field-empty : (object : List ℕ) (tag : ℕ) → fieldFor (readingOf h) (length object) tag ≡ [] → fieldOf (finish h .session) object tag ≡ []
   -- d: each call of the list that has a number was refused where the reading says so, by that number; refusal 4 fits none
-  pub refused : numbers (startHost h) (h .calls) ≡ refusals (begins (h .opening)) (argumentsIn h)
+  pub refused : numbers (startHost h) (h .calls) ≡ refusals (begins since (h .opening)) (argumentsIn h)
   pub never-four : (i : ℕ) → getD (numbers (startHost h) (h .calls)) i 0 ≡ 4 → ⊥
   pub in-range : inRange (finish h .session) ≡ true
   -- e: "Two such stamps, from whatever two openings, are equal exactly when their two lists have the same finding."
   pub apart : (u : History) → (stampOf (finding (readingOf h)) ≡ stampOf (finding (readingOf u))) ↔ (finding (readingOf h) ≡ finding (readingOf u))
   -- f: granted, said of the calls
   pub granted : (standing (finding (readingOf h)) ≡ standsGranted) ↔ Granted (readingOf h)
-  -- g: at most 8,196 answers are taken in a step, and 24,588 in all
-  pub answers-step : (step : ℕ) → answersIn step (begins (h .opening)) (argumentsIn h) ≤ answersMost (h .opening .mode) step
-  pub answers-all : let most = answersMost (h .opening .mode) in answers (begins (h .opening)) (argumentsIn h) ≤ most 0 + most 1 + most 2
-  -- h: a preview made next is refused by the reading's number, or writes the 45 bytes of the finding of the list with that verdict call at its end and leaves the rest
+  -- g: at most 8,196 answers are taken in a step, 32,772 in step 2 of modes 5 and 6; and 24,588 in all, 49,164 in these modes
+  pub answers-step : (step : ℕ) → answersIn step (begins since (h .opening)) (argumentsIn h) ≤ answersMost (h .opening .mode) step
+  pub answers-all : let most = answersMost (h .opening .mode) in answers (begins since (h .opening)) (argumentsIn h) ≤ most 0 + most 1 + most 2
+  -- h: a preview made next is refused by the reading's number, or writes the 46 bytes of the finding of the list with that verdict call at its end and leaves the rest
   pub preview-number : (kind yesNo : ℕ) (fascn out : List ℕ)
       → callNumber (finish h) (Call.preview kind yesNo fascn out) ≡ refusedBy (readingOf h) (Arguments.preview kind yesNo fascn (length out))
   pub preview-bytes : (kind yesNo : ℕ) (fascn out : List ℕ) → previewOf (finish h .session) kind yesNo fascn out .1 ≡ previewFor h kind yesNo fascn out
@@ -302,11 +302,11 @@ pub record FieldPromised (h : History) (s : Session) (object : List ℕ) (tag : 
 abbrev pub FieldPromise : Session → List ℕ → ℕ → List ℕ → Type 0
 FieldPromise s object tag part = (h : History) → s ≡ finish h .session → FieldPromised h s object tag part
 
--- What the first 45 bytes of a buffer say that are the stamp of a reading: the second is granted exactly where the calls say so, and all are the stamp of any other history
+-- What the first 46 bytes of a buffer say that are the stamp of a reading: the second is granted exactly where the calls say so, and all are the stamp of any other history
 -- exactly where the two findings are the same.
 pub record StampSays (r : Reading) (left : List ℕ) : Type 0 where
   pub granted : (getD left 1 0 ≡ standsGranted) ↔ Granted r
-  pub apart : (u : History) → (take stampSize left ≡ stampOf (finding (readingOf u))) ↔ (finding r ≡ finding (readingOf u))
+  pub apart : (u : History) → (take (stampSize since) left ≡ stampOf (finding (readingOf u))) ↔ (finding r ≡ finding (readingOf u))
 
 pub record StampPromised (h : History) (before left : List ℕ) (r : Answered) : Type 0 where
   pub number : replyNumber (r .reply) ≡ refusedBy (readingOf h) (Arguments.stamp (length before))

@@ -1,5 +1,6 @@
--- Document 01's reading, with requests 1 and 6 of document 02, of an opening and a list of calls: "fed the opening's mode, date and AID and each call's arguments (not the
+-- Document 01's reading, with requests 1, 6 and 7 of document 02, of an opening and a list of calls: "fed the opening's mode, date and AID and each call's arguments (not the
 -- session, and only the length of the object buffer), never a result". It knows lists of bytes, and no session, no buffer and no place in one.
+-- It is read by the figures with which it begins.
 -- Assumes nothing.
 use mathlib.Core.Bool.{Bool, true, false, cond, _&&_}
 use mathlib.Core.Option.{Option}
@@ -13,7 +14,7 @@ use Rattle.card.specs.Object.{fieldValue}
 use Rattle.card.specs.Command.{statusOf}
 use Rattle.card.specs.declared.command.Status.{Status}
 use Rattle.card.specs.declared.command.Status.the-variants.{Done, More, Again, Other}
-use Rattle.session.specs.Tables.{checkServed, neededOutcomes, withOutcome, verdictOutcome, judgedOutcomes, kindAt, stepAfter, objectSize, capacity, stepOfTag, NextCommand, commandBytes, dataOf, statusBytes, ruleCause, statusShown, fascnRead, joinedCause}
+use Rattle.session.specs.Tables.{Figures, checkServed, neededOutcomes, withOutcome, verdictOutcome, judgedOutcomes, kindAt, stepAfter, capacity, stepOfTag, NextCommand, commandBytes, dataOf, statusBytes, ruleCause, statusShown, fascnRead, joinedCause}
 use Rattle.session.specs.Condition.{commandConditions, answerConditions, verdictConditions, stampConditions, previewConditions}
 
 -- ---- what the reading is fed
@@ -64,6 +65,7 @@ pub record Found : Type 0 where
   pub verdicts : List Verdict
 
 pub record Reading : Type 0 where
+  pub figures : Figures
   pub opening : Opening
   pub progress : Progress
   pub outcomes : List ℕ
@@ -75,13 +77,13 @@ pub record Reading : Type 0 where
 abbrev pub atStep : ℕ → Progress
 atStep step = record { step = step; cause = 0; sw1 = 0; sw2 = 0; joined = []; outstanding = false; next = NextCommand.ofStep }
 
--- "It starts at step 0 with no cause, no data, no command outstanding, SELECT next, needed outcomes 1, others 0."
-abbrev pub begins : Opening → Reading
-begins o =
-    record { opening = o; progress = atStep 0; outcomes = neededOutcomes (o .mode); found = record { step1 = Option.none; step2 = Option.none; verdicts = [] } }
+-- "It starts at step 0 with no cause, no data, no command outstanding, SELECT next, needed outcomes 1, others 0." By the figures `before` request 7, or those `since`.
+abbrev pub begins : Figures → Opening → Reading
+begins f o =
+    record { figures = f; opening = o; progress = atStep 0; outcomes = neededOutcomes f (o .mode); found = record { step1 = Option.none; step2 = Option.none; verdicts = [] } }
 
 abbrev pub withProgress : Reading → Progress → Reading
-withProgress r p = record { opening = r .opening; progress = p; outcomes = r .outcomes; found = r .found }
+withProgress r p = record { figures = r .figures; opening = r .opening; progress = p; outcomes = r .outcomes; found = r .found }
 
 -- ---- a command call: "makes the next command outstanding"
 
@@ -99,7 +101,7 @@ sending p =
 -- ---- an answer call: "ends that and follows the rules above"
 
 unfoldable pub answerRefused : Reading → ℕ → ℕ → ℕ
-answerRefused r size n = refusalOf (answerConditions (r .progress .outstanding) size n)
+answerRefused r size n = refusalOf (answerConditions (r .figures) (r .progress .outstanding) size n)
 
 -- "A cause of 16 to 22 ends the reading at that step for good." The joined data is what the step had, or, where it was judged, what was appended to that too.
 abbrev pub stopped : Progress → List ℕ → ℕ → ℕ → ℕ → Progress
@@ -115,6 +117,7 @@ abbrev pub step1End : Reading → List ℕ → List ℕ → Reading
 step1End r joined cancelled =
     let mode = r .opening .mode in
     record {
+      figures = r .figures;
       opening = r .opening;
       progress = atStep (stepAfter mode 1);
       outcomes = judgedOutcomes mode (r .opening .date) (r .outcomes) joined cancelled;
@@ -125,6 +128,7 @@ step1End r joined cancelled =
 abbrev pub step2End : Reading → List ℕ → Reading
 step2End r joined =
     record {
+      figures = r .figures;
       opening = r .opening;
       progress = atStep (stepAfter (r .opening .mode) 2);
       outcomes = r .outcomes;
@@ -172,11 +176,12 @@ ownFascn mode (Option.some f) = fascnRead mode (f .joined)
 
 unfoldable pub verdictRefused : Reading → ℕ → ℕ → List ℕ → ℕ
 verdictRefused r kind yesNo fascn =
-    refusalOf (verdictConditions (r .opening .mode) (r .progress .step) (r .outcomes) kind yesNo fascn)
+    refusalOf (verdictConditions (r .figures) (r .opening .mode) (r .progress .step) (r .outcomes) kind yesNo fascn)
 
 abbrev pub verdictTaken : Reading → ℕ → ℕ → List ℕ → Reading
 verdictTaken r kind yesNo fascn =
     record {
+      figures = r .figures;
       opening = r .opening;
       progress = r .progress;
       outcomes = withOutcome (r .outcomes) (checkServed kind) (verdictOutcome (ownFascn (r .opening .mode) (r .found .step1)) yesNo fascn);
@@ -187,7 +192,7 @@ verdictTaken r kind yesNo fascn =
 
 unfoldable pub previewRefused : Reading → ℕ → ℕ → List ℕ → ℕ → ℕ
 previewRefused r kind yesNo fascn room =
-    refusalOf (previewConditions (r .opening .mode) (r .progress .step) (r .outcomes) kind yesNo fascn room)
+    refusalOf (previewConditions (r .figures) (r .opening .mode) (r .progress .step) (r .outcomes) kind yesNo fascn room)
 
 -- ---- every call
 
@@ -206,7 +211,7 @@ refusedBy r (Arguments.command room) = commandRefused r room
 refusedBy r (Arguments.answer size bytes cancelled) = answerRefused r size (length bytes)
 refusedBy r (Arguments.verdict kind yesNo fascn) = verdictRefused r kind yesNo fascn
 refusedBy r (Arguments.field size tag) = 0
-refusedBy r (Arguments.stamp room) = refusalOf (stampConditions room)
+refusedBy r (Arguments.stamp room) = refusalOf (stampConditions (r .figures) room)
 refusedBy r (Arguments.preview kind yesNo fascn room) = previewRefused r kind yesNo fascn room
 
 -- What a call that is accepted makes of the reading. "Field and stamp calls change nothing"; nor does a preview, which "hands back no session" (document 02, request 6).
@@ -253,7 +258,7 @@ fieldIn r tag =
 
 -- What a field call gives of a step's joined data where it was lent a buffer of so many bytes: nothing for refusal 7.
 abbrev pub fieldFor : Reading → ℕ → ℕ → List ℕ
-fieldFor r size tag = cond (eqb size objectSize) (fieldIn r tag) []
+fieldFor r size tag = cond (eqb size (r .figures .objectSize)) (fieldIn r tag) []
 
 -- ---- answers taken
 

@@ -1,5 +1,5 @@
--- Document 01's tables by mode, step, check and verdict kind, and its rules on single values, with requests 1 and 5 of document 02. The reading of a list of calls and the operations on a
--- session share them, and each stands here once.
+-- Document 01's tables by mode, step, check and verdict kind, and its rules on single values, with requests 1, 5 and 7 of document 02. The reading of a list of calls and the operations
+-- on a session share them, and each stands here once. Figures that request 7 changed are a parameter: `before` it and `since`.
 -- Assumes nothing.
 use mathlib.Core.Bool.{Bool, true, false, cond, not, _&&_, _||_}
 use mathlib.Core.List.{List, [], _∷_, _++_}
@@ -10,53 +10,69 @@ use Rattle.common.specs.Lists.{listOf, all, isIn, sameBytes}
 use Rattle.common.specs.Refusal.{refusalOf}
 use Rattle.card.specs.Fascn.{fascnBytes, unpackOf, keyOf}
 use Rattle.card.specs.Template.{templateOf}
-use Rattle.card.specs.Object.{bufferLengthTag, fascnTag, agencyTag, organizationTag, dunsTag, guidTag, expiryTag, signatureTag, fingersTag, malformedObject, objectOf, fieldValue}
+use Rattle.card.specs.Object.{bufferLengthTag, fascnTag, agencyTag, organizationTag, dunsTag, guidTag, expiryTag, signatureTag, biometricTag, malformedObject, objectOf, fieldValue}
 use Rattle.card.specs.Date.{illFormedDate, dateOf}
 use Rattle.card.specs.Command.{selectBytes, getDataBytes, getResponseBytes, withLast}
 use Rattle.card.specs.declared.object.Kind.{Kind}
-use Rattle.card.specs.declared.object.Kind.the-variants.{Signed, Unsigned, Fingers}
+use Rattle.card.specs.declared.object.Kind.the-variants.{Signed, Unsigned, Fingers, Picture}
 use Rattle.card.specs.declared.command.Status.{Status}
 use Rattle.card.specs.declared.command.Status.the-variants.{Done, More, Again, Other}
 
+-- ---- the figures that request 7 of document 02 changed
+
+-- The greatest mode and the greatest verdict kind, both counted from 1; how many checks there are; the size of the object buffer.
+pub record Figures : Type 0 where
+  pub greatestMode : ℕ
+  pub greatestKind : ℕ
+  pub checks : ℕ
+  pub objectSize : ℕ
+
+-- "Modes 1 to 4 are built." "Verdict kinds 1, 2, 3, 4". Checks: 1 signature, 2 signer, 3 expiry, 4 list, 5 active authentication, 6 finger. "The object buffer is 8,192 bytes".
+abbrev pub before : Figures
+before = record { greatestMode = 4; greatestKind = 4; checks = 6; objectSize = 8192 }
+
+-- "The object buffer becomes 20,480 bytes". This figure does not unfold by itself: proofs/FigureLaws.antt has what is to be known of it.
+unfoldable pub objectSize : ℕ
+objectSize = 20480
+
+-- "mode 1–6"; "Verdict kind 5"; "a new check 7, picture".
+abbrev pub since : Figures
+since = record { greatestMode = 6; greatestKind = 5; checks = 7; objectSize = objectSize }
+
+-- How many outcomes a session has.
+abbrev pub checks : ℕ
+checks = since .checks
+
 -- ---- modes and checks
 
--- Checks: 1 signature, 2 signer, 3 expiry, 4 list, 5 active authentication, 6 finger.
-abbrev pub checks : ℕ
-checks = 6
-
--- "Modes 1 to 4 are built."
-abbrev pub greatestMode : ℕ
-greatestMode = 4
-
 -- The modes of a session in range, and the modes that may be opened.
-abbrev pub modeInRange : ℕ → Bool
-modeInRange mode = leb 1 mode && leb mode greatestMode
+abbrev pub modeInRange : Figures → ℕ → Bool
+modeInRange f mode = leb 1 mode && leb mode (f .greatestMode)
 
-abbrev pub modeOpens : ℕ → Bool
-modeOpens mode = modeInRange mode
+abbrev pub modeOpens : Figures → ℕ → Bool
+modeOpens f mode = modeInRange f mode
 
--- Mode 1 needs 1–4, mode 2 needs 3–5, mode 3 needs 1–4 and 6, mode 4 all.
+-- Mode 1 needs 1–4, mode 2 needs 3–5, mode 3 needs 1–4 and 6, mode 4 "goes on with 1–6"; "Mode 5 needs checks 1–4 and a new check 7, picture; mode 6 needs 1–5 and 7".
 abbrev pub checksOf : ℕ → List ℕ
 checksOf mode =
     cond (eqb mode 1) (1 ∷ 2 ∷ 3 ∷ 4 ∷ [])
     (cond (eqb mode 2) (3 ∷ 4 ∷ 5 ∷ [])
-    (cond (eqb mode 3) (1 ∷ 2 ∷ 3 ∷ 4 ∷ 6 ∷ []) (1 ∷ 2 ∷ 3 ∷ 4 ∷ 5 ∷ 6 ∷ [])))
+    (cond (eqb mode 3) (1 ∷ 2 ∷ 3 ∷ 4 ∷ 6 ∷ [])
+    (cond (eqb mode 4) (1 ∷ 2 ∷ 3 ∷ 4 ∷ 5 ∷ 6 ∷ [])
+    (cond (eqb mode 5) (1 ∷ 2 ∷ 3 ∷ 4 ∷ 7 ∷ []) (1 ∷ 2 ∷ 3 ∷ 4 ∷ 5 ∷ 7 ∷ [])))))
 
 -- The mode needs the check.
 unfoldable pub needs : ℕ → ℕ → Bool
 needs mode check = isIn check (checksOf mode)
 
--- Verdict kinds 1, 2, 3, 4 serve checks 1, 2, 5, 6.
-abbrev pub greatestKind : ℕ
-greatestKind = 4
+abbrev pub goodKind : Figures → ℕ → Bool
+goodKind f kind = leb 1 kind && leb kind (f .greatestKind)
 
-abbrev pub goodKind : ℕ → Bool
-goodKind kind = leb 1 kind && leb kind greatestKind
-
+-- Verdict kinds 1, 2, 3, 4 serve checks 1, 2, 5, 6; "Verdict kind 5 serves check 7".
 unfoldable pub checkServed : ℕ → ℕ
-checkServed kind = cond (eqb kind 1) 1 (cond (eqb kind 2) 2 (cond (eqb kind 3) 5 6))
+checkServed kind = cond (eqb kind 1) 1 (cond (eqb kind 2) 2 (cond (eqb kind 3) 5 (cond (eqb kind 4) 6 7)))
 
--- ---- outcomes: a list of six, that of check 1 first
+-- ---- outcomes: a list of as many as there are checks, that of check 1 first
 
 -- An outcome is 0 unneeded, 1 awaited, 2 passed, 3 failed, 4 other card.
 abbrev pub unneeded : ℕ
@@ -85,8 +101,8 @@ withOutcome o check v = set o (check - 1) v
 unfoldable pub neededAt : ℕ → ℕ → ℕ
 neededAt mode i = cond (needs mode (i + 1)) awaited unneeded
 
-unfoldable pub neededOutcomes : ℕ → List ℕ
-neededOutcomes mode = listOf checks (neededAt mode)
+unfoldable pub neededOutcomes : Figures → ℕ → List ℕ
+neededOutcomes f mode = listOf (f .checks) (neededAt mode)
 
 -- "A no gives 3. A yes gives 2 if its 25 bytes equal step 1's FASC-N, else 4."
 unfoldable pub verdictOutcome : List ℕ → ℕ → List ℕ → ℕ
@@ -130,7 +146,7 @@ causeOf arose o = cond (eqb arose 0) (lowestFrom 1 o) arose
 
 -- Each needed outcome is 2.
 unfoldable pub allPassed : ℕ → List ℕ → Bool
-allPassed mode o = all checks (λ i. not (needs mode (i + 1)) || eqb (getD o i 0) passed)
+allPassed mode o = all (length o) (λ i. not (needs mode (i + 1)) || eqb (getD o i 0) passed)
 
 -- "standing (0 open, 1 granted, 2 rejected)"
 abbrev pub standsOpen : ℕ
@@ -148,30 +164,40 @@ standingOf mode step cause o = cond (not (eqb cause 0)) standsRejected (cond (eq
 
 -- ---- steps
 
--- Step 0 is SELECT. Step 1 reads 5FC102, or 5FC104 in mode 2. Step 2 reads DFC103, only in modes 3 and 4. Step 3 means all read.
+-- Step 0 is SELECT. Step 1 reads 5FC102, or 5FC104 in mode 2. Step 2 reads DFC103 in modes 3 and 4, and DFC108 in modes 5 and 6, "In these modes step 2 reads DFC108"; the other
+-- modes have no step 2. Step 3 means all read.
+abbrev pub readsFingers : ℕ → Bool
+readsFingers mode = eqb mode 3 || eqb mode 4
+
+abbrev pub readsPicture : ℕ → Bool
+readsPicture mode = eqb mode 5 || eqb mode 6
+
 abbrev pub hasStep2 : ℕ → Bool
-hasStep2 mode = eqb mode 3 || eqb mode 4
+hasStep2 mode = readsFingers mode || readsPicture mode
 
 abbrev pub kindAt : ℕ → ℕ → Kind
-kindAt mode step = cond (eqb step 2) Fingers (cond (eqb mode 2) Unsigned Signed)
+kindAt mode step = cond (eqb step 2) (cond (readsPicture mode) Picture Fingers) (cond (eqb mode 2) Unsigned Signed)
 
 abbrev pub stepAfter : ℕ → ℕ → ℕ
 stepAfter mode step = cond (eqb step 0) 1 (cond (eqb step 1 && hasStep2 mode) 2 3)
 
--- "The object buffer is 8,192 bytes: steps 0 and 1 fill from byte 0, step 2 fills from byte 4,096, each at most 4,096 bytes."
--- These figures do not unfold by themselves: proofs/FigureLaws.antt has what is to be known of them.
-unfoldable pub objectSize : ℕ
-objectSize = 8192
+-- "steps 0 and 1 fill from byte 0, step 2 fills from byte 4,096, each at most 4,096 bytes"; since request 7 the object buffer is "4,096 as now, then 16,384 for step 2".
+-- These figures do not unfold by themselves either.
+abbrev pub usualCapacity : ℕ
+usualCapacity = 4096
+
+abbrev pub pictureCapacity : ℕ
+pictureCapacity = 16384
 
 unfoldable pub baseOf : ℕ → ℕ
-baseOf step = cond (eqb step 2) 4096 0
+baseOf step = cond (eqb step 2) usualCapacity 0
 
--- The most that a step may hold, by mode and step.
+-- The most that a step may hold, by mode and step: "Cause 18 in step 2 comes past 16,384 in modes 5 and 6, past 4,096 in modes 3 and 4 as before."
 unfoldable pub capacity : ℕ → ℕ → ℕ
-capacity mode step = 4096
+capacity mode step = cond (eqb step 2 && readsPicture mode) pictureCapacity usualCapacity
 
 -- "the stated limit becomes 8,196 for a step" (document 02, request 1): one without data, then one a byte, and one that ends the reading, which are document 01's 4,098;
--- and a 6C before each.
+-- and a 6C before each. "The answer limit for step 2 of the two new modes becomes 32,772, by the same count" (request 7). `answers-figures`, proofs/FigureLaws.antt, has all of them.
 abbrev pub answersMost : ℕ → ℕ → ℕ
 answersMost mode step = 2 * (capacity mode step + 2)
 
@@ -185,7 +211,7 @@ abbrev pub step1Tags : List ℕ
 step1Tags = bufferLengthTag ∷ fascnTag ∷ agencyTag ∷ organizationTag ∷ dunsTag ∷ guidTag ∷ expiryTag ∷ signatureTag ∷ []
 
 abbrev pub step2Tags : List ℕ
-step2Tags = fingersTag ∷ []
+step2Tags = biometricTag ∷ []
 
 -- The step whose object has the field with such a tag; 0 for another tag.
 unfoldable pub stepOfTag : ℕ → ℕ
@@ -294,15 +320,16 @@ joinedCause mode step joined = cond (eqb step 0) (templateOf joined) (objectCaus
 abbrev pub fourBytes : ℕ → List ℕ
 fourBytes n = n / 16777216 % 256 ∷ n / 65536 % 256 ∷ n / 256 % 256 ∷ n % 256 ∷ []
 
--- "Stamp, 45 bytes: mode, standing, cause, status word (2 bytes), step, outcomes (6), opening date as a number, high byte first (4), FASC-N (25), expiry likewise (4)."
+-- "Stamp, 45 bytes: mode, standing, cause, status word (2 bytes), step, outcomes (6), opening date as a number, high byte first (4), FASC-N (25), expiry likewise (4)." "The stamp
+-- becomes 46 bytes, with outcome 7 after outcome 6" (document 02, request 7).
 abbrev pub headSize : ℕ
 headSize = 6
 
 abbrev pub numberSize : ℕ
 numberSize = 4
 
-unfoldable pub stampSize : ℕ
-stampSize = headSize + checks + numberSize + fascnBytes + numberSize
+unfoldable pub stampSize : Figures → ℕ
+stampSize f = headSize + f .checks + numberSize + fascnBytes + numberSize
 
 abbrev pub headOf : ℕ → ℕ → ℕ → ℕ → ℕ → ℕ → List ℕ
 headOf mode standing cause sw1 sw2 step = mode ∷ standing ∷ cause ∷ sw1 ∷ sw2 ∷ step ∷ []

@@ -1,13 +1,15 @@
-// Document 01's figures, each once. A figure that the definitions name stands in specs/Tables.antt under the name given here.
+// Document 01's figures, with request 7 of document 02, each once. A figure that the definitions name stands in specs/Tables.antt under the name given here.
 use card::fascn::counts::FASCN_BYTES;
 
-// "Modes 1 to 4 are built": `greatestMode`. "Verdict kinds 1, 2, 3, 4": `greatestKind`.
-pub(crate) const MODES: u8 = 4;
+// Those that request 7 changed have the value `since`: "mode 1–6", `greatestMode`; "Verdict kind 5", `greatestKind`; "a new check 7", `checks`; "The object buffer becomes 20,480 bytes",
+// `objectSize`.
+pub(crate) const MODES: u8 = 6;
 
-pub(crate) const KINDS: u8 = 4;
+pub(crate) const KINDS: u8 = 5;
 
-// How many checks there are: `checks`.
-pub const CHECKS: usize = 6;
+pub const CHECKS: usize = 7;
+
+pub const OBJECT: usize = 20480;
 
 // Outcomes: `unneeded`, `awaited`, `passed`, `failed`, `otherCard`.
 pub(crate) const UNNEEDED: u8 = 0;
@@ -36,12 +38,12 @@ pub(crate) const GRANTED: u8 = 1;
 
 pub(crate) const REJECTED: u8 = 2;
 
-// The object buffer: `objectSize`; where step 2's data begins: `baseOf`; the most that a step holds: `capacity`.
-pub const OBJECT: usize = 8192;
+// The most that a step holds, and step 2 of modes 5 and 6: `usualCapacity`, `pictureCapacity`. Step 2's data begins after the room of the steps before it: `baseOf`.
+pub(crate) const USUAL_CAPACITY: usize = 4096;
 
-pub(crate) const STEP_2_BASE: usize = 4096;
+pub(crate) const PICTURE_CAPACITY: usize = 16384;
 
-pub(crate) const CAPACITY: usize = 4096;
+pub(crate) const STEP_2_BASE: usize = USUAL_CAPACITY;
 
 // The two status bytes that end an answer, and the most bytes of an answer: `statusSize`, `answerMost`.
 pub(crate) const STATUS: usize = 2;

@@ -17,7 +17,7 @@ use card::object;
 use card::object::EXPIRY_TAG;
 use card::object::FASCN_TAG;
 use card::object::FIELDS;
-use card::object::FINGERS_TAG;
+use card::object::BIOMETRIC_TAG;
 use card::object::Kind;
 use card::object::MALFORMED_OBJECT;
 use card::object::Part;
@@ -169,6 +169,6 @@ impl Session {
         if step == 1 {
             return self.judge_step1(parts, joined, cancelled);
         }
-        self.judge_step2(object::part_of(kind, parts, FINGERS_TAG))
+        self.judge_step2(object::part_of(kind, parts, BIOMETRIC_TAG))
     }
 }

@@ -1,4 +1,4 @@
-// Stamp: 45 bytes that say what was found.
+// Stamp: 46 bytes that say what was found.
 use crate::arrays;
 use crate::figures::DATE_AT;
 use crate::figures::EXPIRY_AT;
@@ -18,7 +18,7 @@ ghost use Prim.Native.Nat.{_≤_};
 ghost use lib.ListN.{length};
 ghost use Rattle.common.specs.Lists.{overFront};
 ghost use Rattle.common.specs.Refusal.{refusalOf};
-ghost use Rattle.session.specs.Tables.{statusShown, fourBytes, stampSize};
+ghost use Rattle.session.specs.Tables.{since, statusShown, fourBytes, stampSize};
 ghost use Rattle.session.specs.Condition.{stampConditions};
 ghost use Rattle.session.specs.Operation.{replyNumber, given, stampRefusal, stampHead, stampIn, stampAnswer, stampBuffer};
 ghost use Rattle.session.specs.Promise.{StampPromise};
@@ -44,7 +44,7 @@ fn status_shown(cause: u8, sw: u8) -> u8
 
 // Whether a buffer of so many bytes has room for the stamp: 6 where it has not.
 pub(crate) fn room_refusal(room: usize) -> Reply
-    ensures { λ r. ⌜ replyNumber r ≡ refusalOf (stampConditions room) ⌝ }
+    ensures { λ r. ⌜ replyNumber r ≡ refusalOf (stampConditions since room) ⌝ }
 {
     if room < STAMP {
         return Reply::ShortBuffer;
@@ -77,7 +77,7 @@ impl Session {
     }
 
     pub(crate) fn write_stamp(self, out: &mut [u8])
-        requires { ⌜ stampSize ≤ length (now out) ⌝ }
+        requires { ⌜ stampSize since ≤ length (now out) ⌝ }
         ensures { λ r. ⌜ now (out .exit) ≡ overFront (stampIn self) (now (out .entry)) ⌝ }
     {
         let head = self.stamp_head();
@@ -96,7 +96,7 @@ impl Session {
         slice::store(out, EXPIRY_AT, &expiry);
     }
 
-    // The stamp, written to the first 45 bytes of out.
+    // The stamp, written to the first 46 bytes of out.
     pub fn stamp(self, out: &mut [u8]) -> Answered
         ensures { λ r. ⌜ given r ≡ stampAnswer self (length (now (out .entry))) ⌝ }
         ensures { λ r. ⌜ now (out .exit) ≡ stampBuffer self (now (out .entry)) ⌝ }

@@ -56,7 +56,7 @@ pub struct Session {
 // What a call answers. `replyNumber` gives document 01's number of each case.
 pub enum Reply {
     Accepted,
-    // open: mode not 1 to 4
+    // open: mode not 1 to 6
     WrongMode,
     // open: date not real
     UnrealDate,
@@ -68,13 +68,13 @@ pub enum Reply {
     OutOfTurn,
     // command, stamp, preview: buffer too short
     ShortBuffer,
-    // answer: object buffer not 8,192 bytes
+    // answer: object buffer not 20,480 bytes
     WrongObjectBuffer,
     // answer: under 2 or over 258 bytes
     WrongAnswerLength,
     // verdict, preview: step not 3
     NotAllRead,
-    // verdict, preview: kind not 1 to 4
+    // verdict, preview: kind not 1 to 5
     UnknownKind,
     // verdict, preview: neither 0 nor 1
     UnknownVerdict,

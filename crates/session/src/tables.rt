@@ -1,6 +1,5 @@
-// Document 01's tables by mode, step, check and verdict kind.
+// Document 01's tables by mode, step, check and verdict kind, with request 7 of document 02.
 use crate::figures::AWAITED;
-use crate::figures::CAPACITY;
 use crate::figures::CHECKS;
 use crate::figures::FAILED;
 use crate::figures::GRANTED;
@@ -9,46 +8,48 @@ use crate::figures::MODES;
 use crate::figures::OPEN;
 use crate::figures::OTHER_CARD;
 use crate::figures::PASSED;
+use crate::figures::PICTURE_CAPACITY;
 use crate::figures::REJECTED;
 use crate::figures::STATUS_CAUSE;
 use crate::figures::STEP_2_BASE;
 use crate::figures::UNNEEDED;
+use crate::figures::USUAL_CAPACITY;
 use card::date::ILL_FORMED_DATE;
 use card::object::AGENCY_TAG;
 use card::object::BUFFER_LENGTH_TAG;
 use card::object::DUNS_TAG;
 use card::object::EXPIRY_TAG;
 use card::object::FASCN_TAG;
-use card::object::FINGERS_TAG;
+use card::object::BIOMETRIC_TAG;
 use card::object::GUID_TAG;
 use card::object::Kind;
 use card::object::ORGANIZATION_TAG;
 use card::object::SIGNATURE_TAG;
 ghost use mathlib.Core.Path.{_≡_};
 ghost use Prim.Native.Nat.{_≤_, _<_};
-ghost use Rattle.session.specs.Tables.{checks, modeInRange, modeOpens, goodKind, needs, checkServed, neededAt, neededOutcomes, outcomeOf, withOutcome, lowestFrom, causeOf, allPassed, standingOf, ends, hasStep2, kindAt, stepAfter, baseOf, capacity, stepRead, stepOfTag};
+ghost use Rattle.session.specs.Tables.{since, checks, modeInRange, modeOpens, goodKind, needs, checkServed, neededAt, neededOutcomes, outcomeOf, withOutcome, lowestFrom, causeOf, allPassed, standingOf, ends, readsPicture, hasStep2, kindAt, stepAfter, baseOf, capacity, stepRead, stepOfTag};
 
 // The modes of a session in range.
 pub(crate) fn mode_in_range(mode: u8) -> bool
-    ensures { λ r. ⌜ r ≡ modeInRange mode ⌝ }
+    ensures { λ r. ⌜ r ≡ modeInRange since mode ⌝ }
 {
     (1 <= mode) & (mode <= MODES)
 }
 
 // The modes that may be opened.
 pub(crate) fn mode_opens(mode: u8) -> bool
-    ensures { λ r. ⌜ r ≡ modeOpens mode ⌝ }
+    ensures { λ r. ⌜ r ≡ modeOpens since mode ⌝ }
 {
     mode_in_range(mode)
 }
 
 pub(crate) fn good_kind(kind: u8) -> bool
-    ensures { λ r. ⌜ r ≡ goodKind kind ⌝ }
+    ensures { λ r. ⌜ r ≡ goodKind since kind ⌝ }
 {
     (1 <= kind) & (kind <= KINDS)
 }
 
-// Whether the mode needs the check: mode 1 needs 1 to 4, mode 2 needs 3 to 5, mode 3 needs 1 to 4 and 6, mode 4 all.
+// Whether the mode needs the check: mode 1 needs 1 to 4, mode 2 needs 3 to 5, mode 3 needs 1 to 4 and 6, mode 4 needs 1 to 6, mode 5 needs 1 to 4 and 7, mode 6 needs 1 to 5 and 7.
 pub(crate) fn needs(mode: u8, check: u8) -> bool
     ensures { λ r. ⌜ r ≡ needs mode check ⌝ }
 {
@@ -61,7 +62,14 @@ pub(crate) fn needs(mode: u8, check: u8) -> bool
     if mode == 3 {
         return (check == 1) | (check == 2) | (check == 3) | (check == 4) | (check == 6);
     }
-    (check == 1) | (check == 2) | (check == 3) | (check == 4) | (check == 5) | (check == 6)
+    if mode == 4 {
+        return (check == 1) | (check == 2) | (check == 3) | (check == 4) | (check == 5)
+            | (check == 6);
+    }
+    if mode == 5 {
+        return (check == 1) | (check == 2) | (check == 3) | (check == 4) | (check == 7);
+    }
+    (check == 1) | (check == 2) | (check == 3) | (check == 4) | (check == 5) | (check == 7)
 }
 
 // The check that a verdict kind serves.
@@ -75,7 +83,10 @@ pub(crate) fn check_served(kind: u8) -> u8
     if kind == 2 {
         return 2;
     }
-    if kind == 3 { 5 } else { 6 }
+    if kind == 3 {
+        return 5;
+    }
+    if kind == 4 { 6 } else { 7 }
 }
 
 // The outcome with which a check begins: 1 where the mode needs it, else 0.
@@ -91,7 +102,7 @@ fn needed_at(mode: u8, i: usize) -> u8
 }
 
 pub(crate) fn needed_outcomes(mode: u8) -> [u8; CHECKS]
-    ensures { λ r. ⌜ r ≡ neededOutcomes mode ⌝ }
+    ensures { λ r. ⌜ r ≡ neededOutcomes since mode ⌝ }
 {
     let mut o = [0u8; CHECKS];
     for i in 0..CHECKS {
@@ -168,11 +179,18 @@ pub(crate) fn ends(cause: u8) -> bool
     (STATUS_CAUSE <= cause) & (cause <= ILL_FORMED_DATE)
 }
 
-// Whether the mode has step 2: modes 3 and 4.
+// Whether step 2 of the mode reads the picture: modes 5 and 6.
+pub(crate) fn reads_picture(mode: u8) -> bool
+    ensures { λ r. ⌜ r ≡ readsPicture mode ⌝ }
+{
+    (mode == 5) | (mode == 6)
+}
+
+// Whether the mode has step 2: modes 3 and 4, which read the fingers, and those that read the picture.
 pub(crate) fn has_step2(mode: u8) -> bool
     ensures { λ r. ⌜ r ≡ hasStep2 mode ⌝ }
 {
-    (mode == 3) | (mode == 4)
+    ((mode == 3) | (mode == 4)) | reads_picture(mode)
 }
 
 // The object that a step reads.
@@ -180,7 +198,11 @@ pub(crate) fn kind_at(mode: u8, step: u8) -> Kind
     ensures { λ r. ⌜ r ≡ kindAt mode step ⌝ }
 {
     if step == 2 {
-        return Kind::Fingers;
+        return if reads_picture(mode) {
+            Kind::Picture
+        } else {
+            Kind::Fingers
+        };
     }
     if mode == 2 {
         Kind::Unsigned
@@ -205,11 +227,15 @@ pub(crate) fn base_of(step: u8) -> usize
     if step == 2 { STEP_2_BASE } else { 0 }
 }
 
-// The most that a step may hold.
+// The most that a step may hold: 16,384 bytes in step 2 of modes 5 and 6, else 4,096.
 pub(crate) fn capacity(mode: u8, step: u8) -> usize
     ensures { λ r. ⌜ r ≡ capacity mode step ⌝ }
 {
-    CAPACITY
+    if (step == 2) & reads_picture(mode) {
+        PICTURE_CAPACITY
+    } else {
+        USUAL_CAPACITY
+    }
 }
 
 // Whether step k has ended well in a session at a step: a later one is reached, and step 2 is one of the mode's.
@@ -228,5 +254,5 @@ pub(crate) fn step_of_tag(tag: u8) -> u8
     if first | older | (tag == GUID_TAG) | (tag == EXPIRY_TAG) | (tag == SIGNATURE_TAG) {
         return 1;
     }
-    if tag == FINGERS_TAG { 2 } else { 0 }
+    if tag == BIOMETRIC_TAG { 2 } else { 0 }
 }

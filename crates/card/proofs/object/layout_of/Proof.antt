@@ -15,8 +15,12 @@ returns-2 c = rw (c .before .enum-told2 .given .1) (c .after-first2 .ensures)
 
 returns-3 : tie.Need-returns-3
 unfolding layoutOf rowsOf
-returns-3 c = rw (c .enum-told3 .given .1)
+returns-3 c = rw (c .before .enum-told3 .given .1) (c .biometric .ensures)
+
+returns-4 : tie.Need-returns-4
+unfolding layoutOf rowsOf
+returns-4 c = rw (c .before .enum-told4 .given .1) (c .biometric2 .ensures)
 
 pub layout-of-spec : {M : Type 1} → statement M
 layout-of-spec =
-    tie.close (tie.spec (λ c. search needs) (λ c κs. search needs) (λ c. search needs) (λ c κs. search needs) (λ c. search needs) returns returns-2 returns-3)
+    tie.close (tie.spec (λ c. search needs) (λ c κs. search needs) (λ c. search needs) (λ c κs. search needs) (λ c. search needs) (λ c κs. search needs) (λ c. search needs) (λ c κs. search needs) returns returns-2 returns-3 returns-4)

@@ -1,9 +1,11 @@
 -- `session::tables::all_passed` meets its contract: a turn adds the test of one check. Assumes nothing.
 use borrow.Author.Needs.{needs}
+use mathlib.Core.Path.{_≡_}
+use native.Mathlib.Omega.{arith}
 use mathlib.Core.Bool.{not, _||_}
 use Prim.Native.Nat.{_+_, _-_}
 use lib.Dec.{eqb}
-use lib.ListN.{getD}
+use lib.ListN.{length, getD}
 use Rattle.common.proofs.LoopLaws.{TestedSoFar, testing-none, testing-more, testing-end}
 use Rattle.session.specs.Tables as tables
 use Rattle.session.specs.Tables.{checks, passed, allPassed}
@@ -16,10 +18,15 @@ Inv-loop mode o ok₀ i₀ ok i = TestedSoFar checks (λ j. not (tables.needs mo
 abbrev μ-loop : tie.MeasureT-loop
 μ-loop mode o ok₀ i₀ ok i = checks - i
 
-pub all-passed-spec : {M : Type 1} → statement M
+returns : tie.Need-returns Inv-loop μ-loop
 unfolding allPassed
+returns c =
+    let counted : length (c .before .before .args .t2) ≡ checks = omega arith in
+    rw counted (testing-end (c .before .loop .inv) (search needs))
+
+pub all-passed-spec : {M : Type 1} → statement M
 all-passed-spec =
     tie.close
     (tie.spec
     Inv-loop μ-loop (λ c. testing-none) (λ c. search needs) (λ c. search needs) (λ c κs. search needs) (λ c. search needs) (λ c. search needs) (λ c. search needs)
-    (λ c. testing-more (c .before .before .loop .inv) (search needs) (rw (c .needs .ensures))) (λ c. testing-end (c .before .loop .inv) (search needs)))
+    (λ c. testing-more (c .before .before .loop .inv) (search needs) (rw (c .needs .ensures))) returns)

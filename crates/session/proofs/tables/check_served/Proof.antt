@@ -19,7 +19,11 @@ returns-3 c = (simp (ne-eqb _ _ (c .before .before .if1 .left), ne-eqb _ _ (c .b
 
 returns-4 : tie.Need-returns-4
 unfolding checkServed
-returns-4 c = (simp (ne-eqb _ _ (c .before .before .if1 .left), ne-eqb _ _ (c .before .if2 .left), ne-eqb _ _ (c .if3 .left)), omega arith)
+returns-4 c = (simp (ne-eqb _ _ (c .before .before .before .if1 .left), ne-eqb _ _ (c .before .before .if2 .left), ne-eqb _ _ (c .before .if3 .left), eq-eqb _ _ (c .if4 .taken)), omega arith)
+
+returns-5 : tie.Need-returns-5
+unfolding checkServed
+returns-5 c = (simp (ne-eqb _ _ (c .before .before .before .if1 .left), ne-eqb _ _ (c .before .before .if2 .left), ne-eqb _ _ (c .before .if3 .left), ne-eqb _ _ (c .if4 .left)), omega arith)
 
 pub check-served-spec : {M : Type 1} → statement M
-check-served-spec = tie.close (tie.spec returns returns-2 returns-3 returns-4)
+check-served-spec = tie.close (tie.spec returns returns-2 returns-3 returns-4 returns-5)

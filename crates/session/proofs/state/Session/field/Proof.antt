@@ -6,7 +6,7 @@ use native.Mathlib.Omega.{arith}
 use Prim.Native.Nat.{_+_, _≤_}
 use lib.Dec.{eqb}
 use lib.ListN.{length}
-use Rattle.session.specs.Tables.{objectSize}
+use Rattle.session.specs.Tables.{since, objectSize}
 use Rattle.session.specs.Condition.{fieldRefused}
 use Rattle.session.specs.Ranges.{inRange, outOfRange}
 use Rattle.session.proofs.RangesLaws.{values-test, part-in-range}
@@ -18,7 +18,7 @@ use Rattle.session.proofs.state.Session.field.Tie as tie
 -- the tests of the code are the definition's
 tests : (c : tie.After-out-of-range) {b : Bool} → let a = c .before .before .before .before .before .args in
     c .out-of-range .result || (not (eqb (length (a .object .now)) objectSize) || (eqb (c .before .before .before .step-of-tag .result) 0 || not (c .before .before .step-read .result))) ≡ b
-    → outOfRange (a .self) || fieldRefused (a .self .opening .mode) (a .self .progress .step) (length (a .object .now)) (a .tag) ≡ b
+    → outOfRange (a .self) || fieldRefused since (a .self .opening .mode) (a .self .progress .step) (length (a .object .now)) (a .tag) ≡ b
 unfolding objectSize
 tests c e = rw (← values-test _ (c .before .values .ensures) (c .out-of-range .ensures), ← c .before .before .before .step-of-tag .ensures, ← c .before .before .step-read .ensures) e
 

@@ -7,6 +7,7 @@ use borrow.Author.Tests.{eq-eqb, ne-eqb}
 use lib.ListN.{drop}
 use Rattle.common.specs.Refusal.{refusalOf}
 use Rattle.card.specs.Fascn.{unpackOf}
+use Rattle.session.specs.Tables.{since}
 use Rattle.session.specs.Condition.{verdictConditions}
 use Rattle.session.specs.Operation.{verdictRefusal}
 use Rattle.session.specs.declared.state.Session.{Session}
@@ -16,7 +17,7 @@ use Rattle.session.proofs.state.Session.verdict_refusal.Tie as tie
 
 -- the number by the conditions past the first n
 abbrev past : ℕ → Session → ℕ → ℕ → List ℕ → ℕ
-past n s kind yesNo fascn = refusalOf (drop n (verdictConditions (s .opening .mode) (s .progress .step) (s .outcomes) kind yesNo fascn))
+past n s kind yesNo fascn = refusalOf (drop n (verdictConditions since (s .opening .mode) (s .progress .step) (s .outcomes) kind yesNo fascn))
 
 returns : tie.Need-returns
 unfolding verdictRefusal
