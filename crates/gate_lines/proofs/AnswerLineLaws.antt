@@ -1,6 +1,6 @@
 -- An answer line is never declined for want of room: for every history the command fits the buffer that the program lends, the object buffer keeps its size, and where
 -- that is document 01's no answer line says 7. Assumes nothing.
-use mathlib.Core.Path.{_≡_, refl, sym, ap, _∙_}
+use mathlib.Core.Path.{_≡_, refl, sym, ap, ap₂, _∙_}
 use mathlib.Core.Bool.{Bool, true, false, cond, not, _&&_, _||_}
 use mathlib.Core.List.{List, [], _∷_, _++_, map}
 use Prim.Native.Nat.{ℕ, _+_, _≤_}
@@ -12,14 +12,14 @@ use Rattle.common.specs.Refusal.{refusalOf}
 use Rattle.card.specs.Date.{realDate}
 use Rattle.card.specs.Command.{aidRefused, statusOf}
 use Rattle.common.proofs.ListsLaws.{length-over}
-use Rattle.session.specs.Tables.{modeInRange, statusSize, answerMost, objectSize, capacity, dataOf, statusBytes, ends}
+use Rattle.session.specs.Tables.{Figures, since, modeInRange, statusSize, answerMost, objectSize, capacity, dataOf, statusBytes, ends}
 use Rattle.session.specs.Condition.{openConditions, nothingToSend, answerConditions, verdictConditions}
 use Rattle.session.specs.Ranges.{outOfRange}
 use Rattle.session.specs.Reading.{Arguments, Reading, begins, withProgress, sending, nextCommand, commandRefused, answerRefused, read, reading}
 use Rattle.session.specs.Operation.{openRefusal, openOf, nextOf, causeIn, placeOf, answerRefusal, answerOf, answerTakenBuffer, answerBuffer, verdictRefusal, verdictOf}
 use Rattle.session.specs.Promise.{Call, argumentsOf, callNumber, History, finish, readingOf}
 use Rattle.session.specs.declared.state.Session.{Session}
-use Rattle.common.proofs.TestLaws.{and-left, and-right, clash}
+use Rattle.common.proofs.TestLaws.{and-left, and-right, clash, either}
 use Rattle.common.proofs.ConditionLaws.{not-named}
 use Rattle.session.proofs.FigureLaws.{base-fits}
 use Rattle.session.proofs.RuleLaws.{rule-fits}
@@ -30,7 +30,7 @@ use Rattle.session.proofs.Invariant.{Invariant}
 use Rattle.session.proofs.PromiseLaws.{reached, promise}
 use Rattle.gate_lines.specs.Line.{GateLine, lineIn}
 use Rattle.gate_lines.specs.Gate.{Gate, gateAfter, hasRoom, commandRoom, commanded, fresh, replyBy, replyTo}
-use Rattle.gate_lines.specs.Run.{runLines, commandCall, Since, withCalls, Reached, numberFor, ended, answerFor}
+use Rattle.gate_lines.specs.Run.{runLines, commandCall, SinceOpen, withCalls, Reached, numberFor, ended, answerFor}
 use Rattle.gate_lines.specs.declared.state.LineReply.{LineReply}
 use Rattle.gate_lines.specs.declared.state.LineReply.the-variants.{Ok, Refused, Bad}
 
@@ -38,7 +38,7 @@ use Rattle.gate_lines.specs.declared.state.LineReply.the-variants.{Ok, R
 
 -- the next command has at most 22 bytes
 next-most : (r : Reading) (m : List ℕ) → Invariant r m → length (nextCommand r) ≤ commandRoom
-next-most r m i = command-length (r .opening .mode) (r .opening .aid) (r .progress .step) (r .progress .next) .1 (not-true (aidRefused (r .opening .aid)) (and-right (modeInRange (r .opening .mode) && realDate (r .opening .date)) (not (aidRefused (r .opening .aid))) (i .opening)))
+next-most r m i = command-length (r .opening .mode) (r .opening .aid) (r .progress .step) (r .progress .next) .1 (not-true (aidRefused (r .opening .aid)) (and-right (modeInRange since (r .opening .mode) && realDate (r .opening .date)) (not (aidRefused (r .opening .aid))) (i .opening)))
 
 -- so 6 is never its number
 command-by : (r : Reading) (m : List ℕ) (room : ℕ) → Invariant r m → commandRoom ≤ room
@@ -79,19 +79,25 @@ sent-outstanding r m i =
 
 -- ---- the number of an answer line
 
-answer-next : (h : History) (size n : ℕ) → answerRefused (read (readingOf h) (Arguments.command commandRoom)) size n ≡ refusalOf (answerConditions (not (ended (readingOf h))) size n)
+sent-figures : (r : Reading) → read r (Arguments.command commandRoom) .figures ≡ r .figures
+unfolding read
+sent-figures r = either (λ (q : Reading). q .figures ≡ r .figures) (eqb (commandRefused r commandRoom) 0) refl refl
+
+answer-next : (h : History) (size n : ℕ) → answerRefused (read (readingOf h) (Arguments.command commandRoom)) size n ≡ refusalOf (answerConditions since (not (ended (readingOf h))) size n)
 unfolding answerRefused
-answer-next h size n = let a = reached h in ap (λ (o : Bool). refusalOf (answerConditions o size n)) (sent-outstanding (readingOf h) (a .object) (a .holds))
+answer-next h size n =
+    let a = reached h in
+    ap₂ (λ (f : Figures) (o : Bool). refusalOf (answerConditions f o size n)) (sent-figures (readingOf h) ∙ a .holds .figures) (sent-outstanding (readingOf h) (a .object) (a .holds))
 
 reading-last : (cs : List Call) (r : Reading) (c : Call) → reading r (map argumentsOf (cs ++ (c ∷ []))) ≡ read (reading r (map argumentsOf cs)) (argumentsOf c)
 reading-last [] r c = refl
 reading-last (x ∷ cs) r c = reading-last cs (read r (argumentsOf x)) c
 
-pub answer-line-number : (t : Since) (u : Gate) (object bytes keys : List ℕ) → Reached t u
+pub answer-line-number : (t : SinceOpen) (u : Gate) (object bytes keys : List ℕ) → Reached t u
     → numberFor (withCalls t (commandCall ∷ [])) (Call.answer object bytes keys) ≡ answerFor t (length object) (length bytes)
-answer-line-number Since.none u object bytes keys l = refl
-answer-line-number (Since.from o b cs) u object bytes keys l =
-    ap (λ (r : Reading). answerRefused r (length object) (length bytes)) (reading-last cs (begins o) commandCall)
+answer-line-number SinceOpen.none u object bytes keys l = refl
+answer-line-number (SinceOpen.from o b cs) u object bytes keys l =
+    ap (λ (r : Reading). answerRefused r (length object) (length bytes)) (reading-last cs (begins since o) commandCall)
     ∙ rw (← l .opening, ← l .made) (answer-next (l .history) (length object) (length bytes))
 
 -- ---- the object buffer keeps its size
@@ -150,12 +156,12 @@ not-seven s object bytes keys size e =
 -- nor an opening's or a verdict's: it is none of their numbers
 opening-not-seven : (mode date : ℕ) (aid : List ℕ) → openOf mode date aid .0 ≡ 7 → ⊥
 unfolding openOf openRefusal
-opening-not-seven mode date aid e = not-named 7 (openConditions mode date aid) refl (sym (zero-or (openRefusal mode date aid) _ _ _ refl) ∙ e)
+opening-not-seven mode date aid e = not-named 7 (openConditions since mode date aid) refl (sym (zero-or (openRefusal mode date aid) _ _ _ refl) ∙ e)
 
 verdict-not-seven : (s : Session) (kind yesNo : ℕ) (fascn : List ℕ) → verdictOf s kind yesNo fascn .0 ≡ 7 → ⊥
 unfolding verdictOf verdictRefusal
 verdict-not-seven s kind yesNo fascn e =
-    not-named 7 ((4, outOfRange s) ∷ verdictConditions (s .opening .mode) (s .progress .step) (s .outcomes) kind yesNo fascn) refl
+    not-named 7 ((4, outOfRange s) ∷ verdictConditions since (s .opening .mode) (s .progress .step) (s .outcomes) kind yesNo fascn) refl
     (sym (zero-or (verdictRefusal s kind yesNo fascn) _ _ _ refl) ∙ e)
 
 -- the object buffer has document 01's size, where the line lends it

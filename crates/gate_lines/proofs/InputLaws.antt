@@ -16,7 +16,7 @@ use Rattle.gate_lines.proofs.LineLaws.{line-held}
 use Rattle.gate_lines.proofs.PrintedLaws.{run-printed, run-output}
 use Rattle.gate_lines.specs.Line.{longest, lineIn}
 use Rattle.gate_lines.specs.Gate.{Gate, gateAfter, replyTo, replyText, fresh, endText}
-use Rattle.gate_lines.specs.Run.{runLines, printed, output, Since, since, printedFor, endFor}
+use Rattle.gate_lines.specs.Run.{runLines, printed, output, SinceOpen, sinceOpen, printedFor, endFor}
 use Rattle.gate_lines.specs.Input.{Cut, cutByte, cut, lastLine, cutOf, linesIn, mostHeld, InputState, inputStart, inputAfterByte, textOfByte, inputAfter, textOfInput, lastGate, lastText, FeedPromise, LastPromise}
 use Rattle.gate_lines.specs.InputCode.{partFrom, heldAfter, lineAfter}
 use Rattle.common.proofs.PlaceLaws.{NoEnd, none-before, with-end}
@@ -317,5 +317,5 @@ last-promise m text e object bytes p =
 pub whole-reading : (object s : List ℕ)
     → let m = inputAfter (inputStart (fresh object)) s in
     textOfInput (inputStart (fresh object)) s ++ lastText m ++ endText (lastGate m .session)
-    ≡ printedFor (fresh object) Since.none (linesIn s) ++ endFor (since (fresh object) (linesIn s))
+    ≡ printedFor (fresh object) SinceOpen.none (linesIn s) ++ endFor (sinceOpen (fresh object) (linesIn s))
 whole-reading object s = whole-output (fresh object) s ∙ run-output object (linesIn s)

@@ -10,9 +10,11 @@ use native.Mathlib.Omega.{arith}
 use borrow.Author.Tests.{eqb-true, eq-eqb}
 use lib.Dec.{eqb, ltb}
 use lib.ListN.{length, drop, replicate}
-use Rattle.session.specs.Tables.{stampSize}
+use Rattle.common.specs.Refusal.{refusalOf}
+use Rattle.session.specs.Tables.{Figures, since, stampSize}
+use Rattle.session.specs.Condition.{stampConditions}
 use Rattle.session.specs.Operation.{dead, opened, openRefusal, openOf, commandOf, answerRefusal, answerOf, answerBuffer, verdictOf, stampAnswer, stampBuffer}
-use Rattle.session.specs.Reading.{Opening}
+use Rattle.session.specs.Reading.{Opening, Arguments, refusedBy}
 use Rattle.session.specs.Finding.{finding, stampOf}
 use Rattle.session.specs.Promise.{Call, Host, hostAfter, Bytes, LentNow, History, finish, readingOf}
 use Rattle.session.specs.declared.state.Session.{Session}
@@ -30,7 +32,7 @@ use Rattle.text.proofs.HexLaws.{bytes-small}
 use Rattle.ccl.specs.Line.{goodCard, lineKey}
 use Rattle.gate_lines.specs.Line.{GateLine, longest, openLowest, openHighest, answerOpens, verdictLowest, verdictHighest, hexFrom, headed, callIn, lineIn}
 use Rattle.gate_lines.specs.Gate.{Gate, gateAfter, hasRoom, commandRoom, fresh, endText}
-use Rattle.gate_lines.specs.Run.{runLines, commandCall, Since, sinceLine, sinceLines, since, ReachedBy, Reached, endFor, EndPromise}
+use Rattle.gate_lines.specs.Run.{runLines, commandCall, SinceOpen, sinceLine, sinceLines, sinceOpen, ReachedBy, Reached, endFor, EndPromise}
 
 -- ---- one call more
 
@@ -123,19 +125,19 @@ opening-reached g mode date aid e =
     }
 
 -- the cards take no part in it
-reached-keys : (t : Since) (g : Gate) (keys : List ℕ) → Reached t g → Reached t (record { session = g .session; keys = keys; object = g .object })
-reached-keys Since.none g keys l = l
-reached-keys (Since.from o b cs) g keys l = record { history = l .history; opening = l .opening; buffer = l .buffer; made = l .made; host = l .host }
+reached-keys : (t : SinceOpen) (g : Gate) (keys : List ℕ) → Reached t g → Reached t (record { session = g .session; keys = keys; object = g .object })
+reached-keys SinceOpen.none g keys l = l
+reached-keys (SinceOpen.from o b cs) g keys l = record { history = l .history; opening = l .opening; buffer = l .buffer; made = l .made; host = l .host }
 
-pub line-reaches : (g : Gate) (t : Since) (line : GateLine) → LineBytes line → Reached t g → Reached (sinceLine g t line) (gateAfter g line)
+pub line-reaches : (g : Gate) (t : SinceOpen) (line : GateLine) → LineBytes line → Reached t g → Reached (sinceLine g t line) (gateAfter g line)
 unfolding gateAfter
 line-reaches g t (GateLine.card key) k l = either (Reached t) (hasRoom g) (reached-keys t g _ l) l
 line-reaches g t (GateLine.opening mode date aid) k l =
     by-test Reached _ _ _ _ (eqb (openOf mode date aid .0) 0) (λ e. opening-reached g mode date aid (eqb-true _ _ e)) (λ e. l)
-line-reaches g Since.none (GateLine.answer bytes) k l = answer-leaves _ (g .object) bytes (g .keys) (command-leaves (g .session) (g .object) l)
-line-reaches g (Since.from o b cs) (GateLine.answer bytes) k l = answer-reached o b cs g bytes k l
-line-reaches g Since.none (GateLine.verdict kind yesNo fascn) k l = verdict-leaves (g .session) kind yesNo fascn l
-line-reaches g (Since.from o b cs) (GateLine.verdict kind yesNo fascn) k l = reached-on o b cs g _ (Call.verdict kind yesNo fascn) l tt refl
+line-reaches g SinceOpen.none (GateLine.answer bytes) k l = answer-leaves _ (g .object) bytes (g .keys) (command-leaves (g .session) (g .object) l)
+line-reaches g (SinceOpen.from o b cs) (GateLine.answer bytes) k l = answer-reached o b cs g bytes k l
+line-reaches g SinceOpen.none (GateLine.verdict kind yesNo fascn) k l = verdict-leaves (g .session) kind yesNo fascn l
+line-reaches g (SinceOpen.from o b cs) (GateLine.verdict kind yesNo fascn) k l = reached-on o b cs g _ (Call.verdict kind yesNo fascn) l tt refl
 line-reaches g t GateLine.bad k l = l
 
 -- ---- every list of lines
@@ -156,35 +158,37 @@ line-bytes l =
     bytes-by (ltb longest (length l)) (goodCard l) (headed openLowest openHighest l) (headed answerOpens answerOpens l) (headed verdictLowest verdictHighest l)
     (lineKey l) (spelled 1 (drop 6 l)) (spelled 8 (drop 8 l)) (spelled 1 (drop 9 l)) (spelled 1 (drop 11 l)) (bytesIn (hexFrom 17 l)) (bytesIn (hexFrom 8 l)) (bytesIn (hexFrom 13 l)) (bytes-small (hexFrom 8 l))
 
-lines-reach : (ls : List (List ℕ)) (g : Gate) (t : Since) → Reached t g → Reached (sinceLines g t ls) (runLines g ls)
+lines-reach : (ls : List (List ℕ)) (g : Gate) (t : SinceOpen) → Reached t g → Reached (sinceLines g t ls) (runLines g ls)
 unfolding sinceLines runLines
 lines-reach [] g t l = l
 lines-reach (x ∷ ls) g t l = lines-reach ls (gateAfter g (lineIn x)) (sinceLine g t (lineIn x)) (line-reaches g t (lineIn x) (line-bytes x) l)
 
-pub run-reaches : (object : List ℕ) (ls : List (List ℕ)) → Reached (since (fresh object) ls) (runLines (fresh object) ls)
-run-reaches object ls = lines-reach ls (fresh object) Since.none refl
+pub run-reaches : (object : List ℕ) (ls : List (List ℕ)) → Reached (sinceOpen (fresh object) ls) (runLines (fresh object) ls)
+run-reaches object ls = lines-reach ls (fresh object) SinceOpen.none refl
 
 -- ---- what is printed at the end
 
 -- a stamp call on the session of a history, with a buffer of a stamp's size
-stamp-of : (h : History) → (stampAnswer (finish h .session) stampSize .0 ≡ 0) × (stampBuffer (finish h .session) (replicate stampSize 0) ≡ stampOf (finding (readingOf h)))
+stamp-of : (h : History) → (stampAnswer (finish h .session) (stampSize since) .0 ≡ 0) × (stampBuffer (finish h .session) (replicate (stampSize since) 0) ≡ stampOf (finding (readingOf h)))
 unfolding stampSize
 stamp-of h =
     let p = promise h in
     let a = reached h in
-    (p .stamp-number (replicate stampSize 0), p .stamp-bytes (replicate stampSize 0) ∙ front-all _ (replicate stampSize 0) (le-of-eq (sym (stamp-length (readingOf h) (a .object) (a .holds)))))
+    let out : List ℕ = replicate (stampSize since) 0 in
+    let room : refusedBy (readingOf h) (Arguments.stamp (length out)) ≡ 0 = ap (λ (f : Figures). refusalOf (stampConditions f (length out))) (a .holds .figures) in
+    (p .stamp-number out ∙ room, p .stamp-bytes out ∙ rw room (front-all _ out (le-of-eq (sym (stamp-length (readingOf h) (a .object) (a .holds))))))
 
-end-reached : (t : Since) (g : Gate) → Reached t g → endText (g .session) ≡ endFor t
+end-reached : (t : SinceOpen) (g : Gate) → Reached t g → endText (g .session) ≡ endFor t
 unfolding endText stampAnswer
-end-reached Since.none g l = rw (l, stamp-dead stampSize)
-end-reached (Since.from o b cs) g l =
+end-reached SinceOpen.none g l = rw (l, stamp-dead (stampSize since))
+end-reached (SinceOpen.from o b cs) g l =
     let h = l .history in
     let e : finish h .session ≡ g .session = ap (λ (x : Host). x .session) (l .host) in
     rw (← e, stamp-of h .0, stamp-of h .1, l .opening, l .made)
 
 -- the stamp of demand 3, of the calls that the lines since the last accepted opening made
-pub run-end : (object : List ℕ) (ls : List (List ℕ)) → endText (runLines (fresh object) ls .session) ≡ endFor (since (fresh object) ls)
-run-end object ls = end-reached (since (fresh object) ls) (runLines (fresh object) ls) (run-reaches object ls)
+pub run-end : (object : List ℕ) (ls : List (List ℕ)) → endText (runLines (fresh object) ls .session) ≡ endFor (sinceOpen (fresh object) ls)
+run-end object ls = end-reached (sinceOpen (fresh object) ls) (runLines (fresh object) ls) (run-reaches object ls)
 
 -- the same as the contract of the code carries it
 pub end-promise : (s : Session) (text : List ℕ) → text ≡ endText s → EndPromise s text

@@ -8,7 +8,7 @@ use lib.ListN.{length, take, replicate}
 use Rattle.common.specs.Lists.{overFront}
 use Rattle.card.specs.Command.{commandMost}
 use Rattle.text.specs.Hex.{hexOf}
-use Rattle.session.specs.Tables.{stampSize}
+use Rattle.session.specs.Tables.{since, stampSize}
 use Rattle.session.specs.Operation.{dead, openOf, commandOf, answerOf, answerBuffer, verdictOf, stampAnswer, stampBuffer}
 use Rattle.session.specs.declared.state.Session.{Session}
 use Rattle.gate_lines.specs.Line.{GateLine}
@@ -113,7 +113,7 @@ stampText stamp = stampOpens ++ hexOf stamp ++ closing
 
 -- The most that is printed at once: the text of a stamp.
 unfoldable pub textSize : ℕ
-textSize = length stampOpens + 2 * stampSize + length closing
+textSize = length stampOpens + 2 * stampSize since + length closing
 
 -- A text as the code gives it: its bytes with zeros after them, and how many count.
 abbrev pub textOf : List ℕ → Text
@@ -126,5 +126,5 @@ textIn t = take (t .len) (t .bytes)
 -- "at the end `(stamp HEX)`, or `(refused 4)` if no session is open"
 unfoldable pub endText : Session → List ℕ
 endText s =
-    let k = stampAnswer s stampSize .0 in
-    cond (eqb k 0) (stampText (stampBuffer s (replicate stampSize 0))) (refusedText k)
+    let k = stampAnswer s (stampSize since) .0 in
+    cond (eqb k 0) (stampText (stampBuffer s (replicate (stampSize since) 0))) (refusedText k)

@@ -8,7 +8,7 @@ use lib.Dec.{eqb}
 use lib.ListN.{length, take}
 use Rattle.gate_lines.specs.Line.{longest, lineIn}
 use Rattle.gate_lines.specs.Gate.{Gate, gateOf, gateAfter, replyTo, replyText, fresh}
-use Rattle.gate_lines.specs.Run.{Since, printedFor}
+use Rattle.gate_lines.specs.Run.{SinceOpen, printedFor}
 use Rattle.gate_lines.specs.declared.state.State.{State}
 
 -- ---- the lines of an input
@@ -80,7 +80,7 @@ lastText m = cond (eqb (length (m .held)) 0) [] (replyText (replyTo (m .gate) (l
 
 -- What the whole lines of an input print, by the reading.
 abbrev pub printedOf : List ℕ → List ℕ → List ℕ
-printedOf object bytes = printedFor (fresh object) Since.none (cutOf bytes .lines)
+printedOf object bytes = printedFor (fresh object) SinceOpen.none (cutOf bytes .lines)
 
 -- What was printed before, with the text of a part of the input after it, is what the whole lines print of all that was fed.
 abbrev pub FeedPromise : InputState → List ℕ → List ℕ → Type 0
@@ -90,4 +90,4 @@ FeedPromise m part text =
 -- The same at the end of the input, with the last line.
 abbrev pub LastPromise : InputState → List ℕ → Type 0
 LastPromise m text =
-    (object bytes : List ℕ) → m ≡ inputAfter (inputStart (fresh object)) bytes → printedOf object bytes ++ text ≡ printedFor (fresh object) Since.none (linesIn bytes)
+    (object bytes : List ℕ) → m ≡ inputAfter (inputStart (fresh object)) bytes → printedOf object bytes ++ text ≡ printedFor (fresh object) SinceOpen.none (linesIn bytes)

@@ -7,6 +7,7 @@ use Prim.Native.Nat.{ℕ}
 use lib.Dec.{eqb}
 use lib.ListN.{length, replicate}
 use Rattle.common.specs.Refusal.{refusalOf}
+use Rattle.session.specs.Tables.{since}
 use Rattle.session.specs.Condition.{nothingLeft, openConditions, answerConditions}
 use Rattle.session.specs.Operation.{dead, openOf}
 use Rattle.session.specs.Reading.{Opening, Reading, begins, refusedBy, reading}
@@ -47,29 +48,29 @@ callsOf g (GateLine.verdict kind yesNo fascn) = Call.verdict kind yesNo fascn �
 callsOf g GateLine.bad = []
 
 -- Since the last accepted opening: that opening, the object buffer at that time, and the calls made since. Before the first there is none.
-pub data Since : Type 0 where
-  none : Since
-  from : (opening : Opening) (object : List ℕ) (calls : List Call) → Since
+pub data SinceOpen : Type 0 where
+  none : SinceOpen
+  from : (opening : Opening) (object : List ℕ) (calls : List Call) → SinceOpen
 
-abbrev pub withCalls : Since → List Call → Since
-withCalls Since.none calls = Since.none
-withCalls (Since.from o object before) calls = Since.from o object (before ++ calls)
+abbrev pub withCalls : SinceOpen → List Call → SinceOpen
+withCalls SinceOpen.none calls = SinceOpen.none
+withCalls (SinceOpen.from o object before) calls = SinceOpen.from o object (before ++ calls)
 
-abbrev pub sinceLine : Gate → Since → GateLine → Since
+abbrev pub sinceLine : Gate → SinceOpen → GateLine → SinceOpen
 sinceLine g t (GateLine.card key) = t
 sinceLine g t (GateLine.opening mode date aid) =
-    cond (eqb (openOf mode date aid .0) 0) (Since.from (record { mode = mode; date = date; aid = aid }) (g .object) []) t
+    cond (eqb (openOf mode date aid .0) 0) (SinceOpen.from (record { mode = mode; date = date; aid = aid }) (g .object) []) t
 sinceLine g t (GateLine.answer bytes) = withCalls t (callsOf g (GateLine.answer bytes))
 sinceLine g t (GateLine.verdict kind yesNo fascn) = withCalls t (callsOf g (GateLine.verdict kind yesNo fascn))
 sinceLine g t GateLine.bad = t
 
-unfoldable pub sinceLines : Gate → Since → List (List ℕ) → Since
+unfoldable pub sinceLines : Gate → SinceOpen → List (List ℕ) → SinceOpen
 sinceLines g t [] = t
 sinceLines g t (l ∷ ls) = sinceLines (gateAfter g (lineIn l)) (sinceLine g t (lineIn l)) ls
 
 -- From the program's start.
-abbrev pub since : Gate → List (List ℕ) → Since
-since g ls = sinceLines g Since.none ls
+abbrev pub sinceOpen : Gate → List (List ℕ) → SinceOpen
+sinceOpen g ls = sinceLines g SinceOpen.none ls
 
 -- ---- what is promised
 
@@ -81,15 +82,15 @@ pub record ReachedBy (o : Opening) (object : List ℕ) (calls : List Call) (g : 
   pub made : history .calls ≡ calls
   pub host : finish history ≡ record { session = g .session; object = g .object }
 
-abbrev pub Reached : Since → Gate → Type 0
-Reached Since.none g = g .session ≡ dead
-Reached (Since.from o object calls) g = ReachedBy o object calls g
+abbrev pub Reached : SinceOpen → Gate → Type 0
+Reached SinceOpen.none g = g .session ≡ dead
+Reached (SinceOpen.from o object calls) g = ReachedBy o object calls g
 
 -- "Which calls are refused is read from the list too": the number that the reading of the calls since the last accepted opening gives to a call made next; 4 where no
 -- opening was accepted.
-abbrev pub numberFor : Since → Call → ℕ
-numberFor Since.none c = 4
-numberFor (Since.from o object calls) c = refusedBy (reading (begins o) (map argumentsOf calls)) (argumentsOf c)
+abbrev pub numberFor : SinceOpen → Call → ℕ
+numberFor SinceOpen.none c = 4
+numberFor (SinceOpen.from o object calls) c = refusedBy (reading (begins since o) (map argumentsOf calls)) (argumentsOf c)
 
 -- Of a reading: nothing is left to read.
 abbrev pub ended : Reading → Bool
@@ -97,31 +98,31 @@ ended r = nothingLeft (r .progress .step) (r .progress .cause)
 
 -- The number of an answer line, by the calls before the line. It makes the command call first, for which it has room enough; a command is then outstanding, but where the
 -- reading has ended. So 5 is left where it has, 7 by the object buffer's size, and 8 by the answer's.
-abbrev pub answerFor : Since → ℕ → ℕ → ℕ
-answerFor Since.none size n = 4
-answerFor (Since.from o object calls) size n = refusalOf (answerConditions (not (ended (reading (begins o) (map argumentsOf calls)))) size n)
+abbrev pub answerFor : SinceOpen → ℕ → ℕ → ℕ
+answerFor SinceOpen.none size n = 4
+answerFor (SinceOpen.from o object calls) size n = refusalOf (answerConditions since (not (ended (reading (begins since o) (map argumentsOf calls)))) size n)
 
 -- What a line prints: an opening by document 01's conditions on its values, an answer and a verdict by the reading of the calls before. Of the state g this looks at the
 -- count of the cards and at the size of the object buffer.
-abbrev pub replyFor : Since → Gate → GateLine → LineReply
+abbrev pub replyFor : SinceOpen → Gate → GateLine → LineReply
 replyFor t g (GateLine.card key) = cond (hasRoom g) Ok Bad
-replyFor t g (GateLine.opening mode date aid) = replyBy (refusalOf (openConditions mode date aid))
+replyFor t g (GateLine.opening mode date aid) = replyBy (refusalOf (openConditions since mode date aid))
 replyFor t g (GateLine.answer bytes) = replyBy (answerFor t (length (g .object)) (length bytes))
 replyFor t g (GateLine.verdict kind yesNo fascn) = replyBy (numberFor t (Call.verdict kind yesNo fascn))
 replyFor t g GateLine.bad = Bad
 
 -- What is printed for a list of lines.
-unfoldable pub printedFor : Gate → Since → List (List ℕ) → List ℕ
+unfoldable pub printedFor : Gate → SinceOpen → List (List ℕ) → List ℕ
 printedFor g t [] = []
 printedFor g t (l ∷ ls) = replyText (replyFor t g (lineIn l)) ++ printedFor (gateAfter g (lineIn l)) (sinceLine g t (lineIn l)) ls
 
 -- What is printed at the end: the stamp of the finding that is read from that opening and those calls.
-abbrev pub endFor : Since → List ℕ
-endFor Since.none = refusedText 4
-endFor (Since.from o object calls) = stampText (stampOf (finding (reading (begins o) (map argumentsOf calls))))
+abbrev pub endFor : SinceOpen → List ℕ
+endFor SinceOpen.none = refusedText 4
+endFor (SinceOpen.from o object calls) = stampText (stampOf (finding (reading (begins since o) (map argumentsOf calls))))
 
 -- What is promised of the reply to a line.
-pub record ReplyPromised (t : Since) (g : Gate) (line : GateLine) (reply : LineReply) : Type 0 where
+pub record ReplyPromised (t : SinceOpen) (g : Gate) (line : GateLine) (reply : LineReply) : Type 0 where
   pub is : reply ≡ replyFor t g line
   -- of an answer line this is the reading's number for the answer call, after the calls before and the command call
   pub answer : (bytes : List ℕ) → line ≡ GateLine.answer bytes → reply ≡ replyBy (numberFor (withCalls t (commandCall ∷ [])) (Call.answer (g .object) bytes (g .keys)))
@@ -129,7 +130,7 @@ pub record ReplyPromised (t : Since) (g : Gate) (line : GateLine) (reply : LineR
 -- As the contracts of the code carry it: for every object buffer and every list of lines that lead to the session.
 abbrev pub ReplyPromise : Gate → GateLine → LineReply → Type 0
 ReplyPromise g line reply =
-    (object : List ℕ) (ls : List (List ℕ)) → g .session ≡ runLines (fresh object) ls .session → ReplyPromised (since (fresh object) ls) g line reply
+    (object : List ℕ) (ls : List (List ℕ)) → g .session ≡ runLines (fresh object) ls .session → ReplyPromised (sinceOpen (fresh object) ls) g line reply
 
 abbrev pub EndPromise : Session → List ℕ → Type 0
-EndPromise s text = (object : List ℕ) (ls : List (List ℕ)) → s ≡ runLines (fresh object) ls .session → text ≡ endFor (since (fresh object) ls)
+EndPromise s text = (object : List ℕ) (ls : List (List ℕ)) → s ≡ runLines (fresh object) ls .session → text ≡ endFor (sinceOpen (fresh object) ls)

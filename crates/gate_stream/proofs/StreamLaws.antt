@@ -24,7 +24,7 @@ use Rattle.gate_lines.specs.declared.state.Text.{Text}
 use Rattle.gate_lines.specs.declared.state.LineReply.{LineReply}
 use Rattle.gate_lines.specs.declared.state.LineReply.the-variants.{Ok, Refused, Bad}
 use Rattle.gate_lines.specs.declared.state.State.{State}
-use Rattle.gate_lines.specs.Run.{Since, since, printedFor, endFor}
+use Rattle.gate_lines.specs.Run.{SinceOpen, sinceOpen, printedFor, endFor}
 use Rattle.gate_lines.proofs.RunLaws.{run-end}
 use Rattle.gate_lines.proofs.InputLaws.{feed-append, text-append, whole-gate, last-promise}
 use Rattle.gate_stream.specs.Stream.{replyMost, goesOn, Fed, endingText, EndsWith, EndsBy}
@@ -146,10 +146,10 @@ pub ends-with : (object out left : List ℕ) (m e : InputState) (more : Bool) (n
 unfolding endingText overFront
 ends-with object out left m e more n p f k o =
     let at : e ≡ inputAfter (inputStart (fresh object)) (f .bytes) = f .is ∙ ap (λ (x : InputState). inputAfter x (f .bytes)) p in
-    let ends : endText (lastGate e .session) ≡ endFor (since (fresh object) (linesIn (f .bytes))) =
+    let ends : endText (lastGate e .session) ≡ endFor (sinceOpen (fresh object) (linesIn (f .bytes))) =
     ap (λ (x : InputState). endText (lastGate x .session)) at ∙ ap (λ (x : Gate). endText (x .session)) (whole-gate (fresh object) (f .bytes)) ∙ run-end object (linesIn (f .bytes)) in
     let before = printedOf object (f .bytes) in
-    let both : before ++ (lastText e ++ endText (lastGate e .session)) ≡ printedFor (fresh object) Since.none (linesIn (f .bytes)) ++ endFor (since (fresh object) (linesIn (f .bytes))) =
+    let both : before ++ (lastText e ++ endText (lastGate e .session)) ≡ printedFor (fresh object) SinceOpen.none (linesIn (f .bytes)) ++ endFor (sinceOpen (fresh object) (linesIn (f .bytes))) =
     sym (append-assoc before (lastText e) (endText (lastGate e .session))) ∙ ap₂ (λ (x y : List ℕ). x ++ y) (last-promise e (lastText e) refl object (f .bytes) at) ends in
     record { bytes = f .bytes; is = rw (k, o, take-append-seam) both }
 

@@ -8,7 +8,7 @@ use lib.IntN.{ℤ, pos}
 use lib.Signed.{ltZ}
 use lib.ListN.{length, take}
 use Rattle.gate_lines.specs.Gate.{fresh, endText}
-use Rattle.gate_lines.specs.Run.{Since, since, printedFor, endFor}
+use Rattle.gate_lines.specs.Run.{SinceOpen, sinceOpen, printedFor, endFor}
 use Rattle.gate_lines.specs.Input.{linesIn, InputState, inputAfter, lastGate, lastText, printedOf}
 use Rattle.gate_stream.specs.declared.Ending.{Ending}
 
@@ -49,7 +49,7 @@ endingText m = lastText m ++ endText (lastGate m .session)
 -- and, at the end, demand 3's stamp or its refusal. The object buffer had any content at first.
 pub record EndsWith (object text : List ℕ) : Type 0 where
   pub bytes : List ℕ
-  pub is : printedOf object bytes ++ text ≡ printedFor (fresh object) Since.none (linesIn bytes) ++ endFor (since (fresh object) (linesIn bytes))
+  pub is : printedOf object bytes ++ text ≡ printedFor (fresh object) SinceOpen.none (linesIn bytes) ++ endFor (sinceOpen (fresh object) (linesIn bytes))
 
 -- By the test: nothing is handed on at the end where a read or a write failed.
 abbrev pub EndsBy : Bool → List ℕ → List ℕ → ℕ → Type 0

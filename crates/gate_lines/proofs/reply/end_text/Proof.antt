@@ -7,7 +7,7 @@ use mathlib.Core.List.{List}
 use Prim.Native.Nat.{ℕ}
 use lib.Dec.{eqb}
 use lib.ListN.{replicate}
-use Rattle.session.specs.Tables.{stampSize}
+use Rattle.session.specs.Tables.{since, stampSize}
 use Rattle.session.specs.Operation.{stampAnswer, stampBuffer}
 use Rattle.session.specs.declared.state.Session.{Session}
 use Rattle.gate_lines.specs.Gate.{stampText, refusedText, replyText, textOf, endText}
@@ -18,7 +18,7 @@ use Rattle.gate_lines.proofs.reply.end_text.Statement.{statement}
 use Rattle.gate_lines.proofs.reply.end_text.Tie as tie
 
 -- by the answer of a stamp call and what it leaves in the buffer
-end-by : (s : Session) {k : ℕ} {out : List ℕ} → k ≡ stampAnswer s stampSize .0 → out ≡ stampBuffer s (replicate stampSize 0)
+end-by : (s : Session) {k : ℕ} {out : List ℕ} → k ≡ stampAnswer s (stampSize since) .0 → out ≡ stampBuffer s (replicate (stampSize since) 0)
     → cond (eqb k 0) (stampText out) (refusedText k) ≡ endText s
 unfolding endText
 end-by s e f = rw (e, f)
