@@ -14,7 +14,7 @@ use Rattle.session.specs.Operation.{answerRefusal, answerBuffer}
 use Rattle.session.specs.Promise.{Host}
 use Rattle.session.specs.declared.state.Session.{Session}
 use Rattle.vectors.specs.Append.{Added}
-use Rattle.vectors.specs.CallsText.{headSize, argumentCount, laterCalls, firstText, afterFirst, callsLeft, hostAt}
+use Rattle.vectors.specs.CallsText.{callHeadSize, argumentCount, laterCalls, firstText, afterFirst, callsLeft, hostAt}
 use Rattle.vectors.proofs.AppendLaws.{same-text, AddedSoFar, adding-none, adding-more}
 
 -- ---- hosts
@@ -48,17 +48,17 @@ unfolding hostAt callsLeft
 no-call h s p = record { texts = adding-none p; host-is = refl; inside = omega arith; left-is = refl }
 
 pub one-call : {b d e : List ℕ} {at i m k from used n : ℕ} {h u v : Host} {s left : List ℕ} → CallsSoFar b at h s i d m u from → i < length s → left ≡ drop from s → Added d m e k (firstText u left) → v ≡ afterFirst u left
-    → n ≡ argumentCount left → used ≡ min (length left) (headSize + n) → CallsSoFar b at h s (i + 1) e k v (from + used)
+    → n ≡ argumentCount left → used ≡ min (length left) (callHeadSize + n) → CallsSoFar b at h s (i + 1) e k v (from + used)
 unfolding hostAt callsLeft
 one-call {i = i} {from = from} {used} {n} {s = s} {left} c l f p q r t =
     let e : left ≡ callsLeft s i = f ∙ c .left-is in
     let size : length left ≡ length s - from = ap length f ∙ length-drop from s in
-    let later : drop (headSize + n) left ≡ laterCalls (callsLeft s i) = ap (λ (k : ℕ). drop (headSize + k) left) r ∙ ap laterCalls e in
+    let later : drop (callHeadSize + n) left ≡ laterCalls (callsLeft s i) = ap (λ (k : ℕ). drop (callHeadSize + k) left) r ∙ ap laterCalls e in
     record {
       texts = adding-more (c .texts) l (same-text (ap₂ firstText (c .host-is) e) p);
       host-is = rw add-one (q ∙ ap₂ afterFirst (c .host-is) e);
       inside = omega (arith, t, size, c .inside);
-      left-is = rw add-one (sym (drop-drop used from s) ∙ ap (drop used) (sym f) ∙ drop-most used (headSize + n) left t ∙ later);
+      left-is = rw add-one (sym (drop-drop used from s) ∙ ap (drop used) (sym f) ∙ drop-most used (callHeadSize + n) left t ∙ later);
     }
 
 pub all-calls : {b d : List ℕ} {at i m from : ℕ} {h now : Host} {s : List ℕ} → CallsSoFar b at h s i d m now from → length s ≤ i → i ≡ length s

@@ -29,17 +29,17 @@ directCall n =
     (cond (eqb n 6) Stamp
     (cond (eqb n 7) Field None))))))
 
-abbrev pub headSize : ℕ
-headSize = 3
+abbrev pub callHeadSize : ℕ
+callHeadSize = 3
 
 abbrev pub argumentCount : List ℕ → ℕ
 argumentCount s = 256 * getD s 1 0 + getD s 2 0
 
-abbrev pub argumentsIn : List ℕ → List ℕ
-argumentsIn s = take (argumentCount s) (drop headSize s)
+abbrev pub argumentBytes : List ℕ → List ℕ
+argumentBytes s = take (argumentCount s) (drop callHeadSize s)
 
 abbrev pub laterCalls : List ℕ → List ℕ
-laterCalls s = drop (headSize + argumentCount s) s
+laterCalls s = drop (callHeadSize + argumentCount s) s
 
 -- The date of an opening, four bytes after the mode, the highest first.
 unfoldable pub dateIn : List ℕ → ℕ
@@ -99,8 +99,8 @@ fieldWord = 0x28 ∷ 0x66 ∷ 0x69 ∷ 0x65 ∷ 0x6C ∷ 0x64 ∷ 0x20 ∷ []
 abbrev pub noneWord : List ℕ
 noneWord = 0x28 ∷ 0x6E ∷ 0x6F ∷ 0x6E ∷ 0x65 ∷ 0x29 ∷ []
 
-abbrev pub space : List ℕ
-space = 0x20 ∷ []
+abbrev pub oneSpace : List ℕ
+oneSpace = 0x20 ∷ []
 
 abbrev pub close : List ℕ
 close = 0x29 ∷ []
@@ -111,26 +111,26 @@ numberedText word n = word ++ numberText n ++ close
 
 -- `(stamp N HEX)`: the number, and all bytes of the lent buffer
 unfoldable pub bufferText : List ℕ → ℕ → List ℕ → List ℕ
-bufferText word n buffer = word ++ numberText n ++ space ++ hexOf buffer ++ close
+bufferText word n buffer = word ++ numberText n ++ oneSpace ++ hexOf buffer ++ close
 
 -- `(command N COUNT HEX)`
 unfoldable pub countedText : ℕ → ℕ → List ℕ → List ℕ
-countedText n count buffer = commandWord ++ numberText n ++ space ++ numberText count ++ space ++ hexOf buffer ++ close
+countedText n count buffer = commandWord ++ numberText n ++ oneSpace ++ numberText count ++ oneSpace ++ hexOf buffer ++ close
 
 -- `(field HEX)`
 unfoldable pub fieldText : List ℕ → List ℕ
 fieldText part = fieldWord ++ hexOf part ++ close
 
 -- The text of a call with the arguments a, made on the session of a host and lent the host's object buffer, no list, and the buffer `out`.
-unfoldable pub callText : DirectCall → Host → List ℕ → List ℕ → List ℕ
-callText Open h a out = numberedText openWord (openBy a .0)
-callText Command h a out = let c = Call.command out in countedText (callNumber h c) (countOf h c) (bytesOf h c)
-callText Answer h a out = numberedText answerWord (callNumber h (Call.answer (h .object) a []))
-callText Verdict h a out = numberedText verdictWord (callNumber h (Call.verdict (getD a 0 0) (getD a 1 0) (drop 2 a)))
-callText Preview h a out = let c = Call.preview (getD a 0 0) (getD a 1 0) (drop 3 a) out in bufferText previewWord (callNumber h c) (bytesOf h c)
-callText Stamp h a out = let c = Call.stamp out in bufferText stampWord (callNumber h c) (bytesOf h c)
-callText Field h a out = fieldText (bytesOf h (Call.field (h .object) (getD a 0 0)))
-callText None h a out = noneWord
+unfoldable pub directText : DirectCall → Host → List ℕ → List ℕ → List ℕ
+directText Open h a out = numberedText openWord (openBy a .0)
+directText Command h a out = let c = Call.command out in countedText (callNumber h c) (countOf h c) (bytesOf h c)
+directText Answer h a out = numberedText answerWord (callNumber h (Call.answer (h .object) a []))
+directText Verdict h a out = numberedText verdictWord (callNumber h (Call.verdict (getD a 0 0) (getD a 1 0) (drop 2 a)))
+directText Preview h a out = let c = Call.preview (getD a 0 0) (getD a 1 0) (drop 3 a) out in bufferText previewWord (callNumber h c) (bytesOf h c)
+directText Stamp h a out = let c = Call.stamp out in bufferText stampWord (callNumber h c) (bytesOf h c)
+directText Field h a out = fieldText (bytesOf h (Call.field (h .object) (getD a 0 0)))
+directText None h a out = noneWord
 
 -- The session and the object buffer after it. An opening gives a new session, the dead one where it is refused.
 unfoldable pub afterCall : DirectCall → Host → List ℕ → List ℕ → Host
@@ -160,13 +160,13 @@ bufferAfter None h a out = out
 unfoldable pub firstText : Host → List ℕ → List ℕ
 firstText h s =
     let call = directCall (getD s 0 0) in
-    let a = argumentsIn s in
-    cond (eqb (length s) 0) [] (callText call h a (lentFor call a))
+    let a = argumentBytes s in
+    cond (eqb (length s) 0) [] (directText call h a (lentFor call a))
 
 unfoldable pub afterFirst : Host → List ℕ → Host
 afterFirst h s =
     let call = directCall (getD s 0 0) in
-    let a = argumentsIn s in
+    let a = argumentBytes s in
     cond (eqb (length s) 0) h (afterCall call h a (lentFor call a))
 
 -- What is left of the bytes s after i calls, and the session and the object buffer then, by those at the start.

@@ -64,6 +64,12 @@ pub(crate) fn call_of(name: &[u8]) -> VectorCall
     );
     let c = row(
         name,
+        b"getpicture",
+        VectorCall::GetData(Kind::Picture, 12),
+        c,
+    );
+    let c = row(
+        name,
         b"getfingers",
         VectorCall::GetData(Kind::Fingers, 12),
         c,
@@ -78,6 +84,7 @@ pub(crate) fn call_of(name: &[u8]) -> VectorCall
     let c = row(name, b"selectagain", VectorCall::SelectAgain(24), c);
     let c = row(name, b"shortselect", VectorCall::Select(14), c);
     let c = row(name, b"select", VectorCall::Select(24), c);
+    let c = row(name, b"picture", VectorCall::Object(Kind::Picture), c);
     let c = row(name, b"fingers", VectorCall::Object(Kind::Fingers), c);
     let c = row(name, b"unsigned", VectorCall::Object(Kind::Unsigned), c);
     let c = row(name, b"signed", VectorCall::Object(Kind::Signed), c);

@@ -11,9 +11,9 @@ ghost use Prim.Native.Nat.{_≤_};
 ghost use lib.ListN.{length, getD};
 ghost use Rattle.session.specs.Operation.{commandOf, commandBuffer, answerOf, answerBuffer, fieldOf, stampRefusal, stampBuffer};
 ghost use Rattle.vectors.specs.Append.{Added};
-ghost use Rattle.vectors.specs.CallsText.{directCall, argumentCount, dateIn, openBy, verdictBy, previewBy, roomIn, openWord, answerWord, verdictWord, previewWord, stampWord, numberedText, bufferText, countedText, fieldText, callText, afterCall, bufferAfter, firstText, afterFirst, hostAt, callTexts, callsText};
+ghost use Rattle.vectors.specs.CallsText.{directCall, argumentCount, dateIn, openBy, verdictBy, previewBy, roomIn, openWord, answerWord, verdictWord, previewWord, stampWord, numberedText, bufferText, countedText, fieldText, directText, afterCall, bufferAfter, firstText, afterFirst, hostAt, callTexts, callsText};
 
-// The bytes before the arguments of a call; `headSize` in the definitions.
+// The bytes before the arguments of a call; `callHeadSize` in the definitions.
 const HEAD: usize = 3;
 
 // The most bytes of a buffer that a call is lent; `mostRoom` in the definitions.
@@ -234,7 +234,7 @@ fn run_call(
     a: &[u8],
     buffer: &mut [u8],
 ) -> CallRun
-    ensures text { λ r. ⌜ Added (now (out .entry)) at (now (out .exit)) (r .end) (callText call (record { session = session; object = now (object .entry) }) (now (a .entry)) (now (buffer .entry))) ⌝ }
+    ensures text { λ r. ⌜ Added (now (out .entry)) at (now (out .exit)) (r .end) (directText call (record { session = session; object = now (object .entry) }) (now (a .entry)) (now (buffer .entry))) ⌝ }
     ensures host { λ r. ⌜ record { session = r .session; object = now (object .exit) } ≡ afterCall call (record { session = session; object = now (object .entry) }) (now (a .entry)) (now (buffer .entry)) ⌝ }
     ensures holds { λ r. ⌜ now (buffer .exit) ≡ bufferAfter call (record { session = session; object = now (object .entry) }) (now (a .entry)) (now (buffer .entry)) ⌝ }
 {

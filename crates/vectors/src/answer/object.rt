@@ -170,6 +170,7 @@ fn add_shown(out: &mut [u8], at: usize, kind: Kind, parts: [Part; object::FIELDS
             b"\xEE\x30\x31\x32\x33\x34\x35",
         ),
         Kind::Fingers => add_fields(out, at, Kind::Fingers, parts, b"\xBC"),
+        Kind::Picture => add_fields(out, at, Kind::Picture, parts, b"\xBC"),
     }
 }
 

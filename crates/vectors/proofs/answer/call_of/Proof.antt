@@ -23,7 +23,9 @@ last-is name = refl
 returns : tie.Need-returns
 unfolding callNamed
 returns c =
-    let at-row21 = c .before .before in
+    let at-row23 = c .before .before in
+    let at-row22 = at-row23 .before .before in
+    let at-row21 = at-row22 .before .before in
     let at-row20 = at-row21 .before .before in
     let at-row19 = at-row20 .before .before in
     let at-row18 = at-row19 .before .before in
@@ -44,7 +46,9 @@ returns c =
     let at-row3 = at-row4 .before .before in
     let at-row2 = at-row3 .before .before in
     let at-row = at-row2 .before .before in
-    row-is _ _ _ _ (c .row22 .ensures)
+    row-is _ _ _ _ (c .row24 .ensures)
+    (row-is _ _ _ _ (at-row23 .row23 .ensures)
+    (row-is _ _ _ _ (at-row22 .row22 .ensures)
     (row-is _ _ _ _ (at-row21 .row21 .ensures)
     (row-is _ _ _ _ (at-row20 .row20 .ensures)
     (row-is _ _ _ _ (at-row19 .row19 .ensures)
@@ -64,7 +68,7 @@ returns c =
     (row-is _ _ _ _ (at-row5 .row5 .ensures)
     (row-is _ _ _ _ (at-row4 .row4 .ensures)
     (row-is _ _ _ _ (at-row3 .row3 .ensures)
-    (row-is _ _ _ _ (at-row2 .row2 .ensures) (row-is _ _ _ _ (at-row .row .ensures) (last-is _))))))))))))))))))))))
+    (row-is _ _ _ _ (at-row2 .row2 .ensures) (row-is _ _ _ _ (at-row .row .ensures) (last-is _))))))))))))))))))))))))
 
 pub call-of-spec : {M : Type 1} → statement M
 call-of-spec =
@@ -77,4 +81,4 @@ call-of-spec =
     (λ c. search needs) (λ c κs. search needs) (λ c. search needs) (λ c κs. search needs) (λ c. search needs) (λ c κs. search needs)
     (λ c. search needs) (λ c κs. search needs) (λ c. search needs) (λ c κs. search needs) (λ c. search needs) (λ c κs. search needs)
     (λ c. search needs) (λ c κs. search needs) (λ c. search needs) (λ c κs. search needs) (λ c. search needs) (λ c κs. search needs)
-    (λ c. search needs) (λ c κs. search needs) returns)
+    (λ c. search needs) (λ c κs. search needs) (λ c. search needs) (λ c κs. search needs) (λ c. search needs) (λ c κs. search needs) returns)

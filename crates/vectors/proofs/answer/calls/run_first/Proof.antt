@@ -10,7 +10,7 @@ use lib.ListN.{take, drop, replicate}
 use lib.Seq.{length-take-le}
 use Rattle.common.proofs.ListsLaws.{take-most}
 use Rattle.session.specs.Promise.{Host}
-use Rattle.vectors.specs.CallsText.{directCall, headSize, mostRoom, lentFor, callText, afterCall, firstText, afterFirst}
+use Rattle.vectors.specs.CallsText.{directCall, callHeadSize, mostRoom, lentFor, directText, afterCall, firstText, afterFirst}
 use Rattle.vectors.specs.declared.answer.calls.DirectCall.{DirectCall}
 use Rattle.vectors.proofs.AppendLaws.{same-text, when, unless}
 use Rattle.vectors.proofs.answer.calls.run_first.Statement.{statement}
@@ -38,9 +38,9 @@ returns-2 c =
     let h : Host = record { session = c .before .before .before .before .before .before .before .before .before .before .before .before .before .before .before .before .before .before .before .args .session; object = c .before .before .before .before .before .before .before .before .before .before .before .before .before .before .before .before .before .before .before .args .object .now } in
     let some = ne-eqb _ _ (c .before .before .before .before .before .before .before .before .before .before .before .before .before .before .before .if1 .left) in
     let p = c .before .before .before .before .before .before .before .before .before .before .before .before .before .direct-call .ensures ∙ ap directCall (c .before .before .before .before .before .before .before .before .before .before .before .before .before .before .byte .ensures) in
-    let q = c .before .before .before .before .before .before .before .before .before .before .before .part .ensures ∙ ap (λ (n : ℕ). take n (drop headSize s)) (c .before .before .before .before .before .before .before .before .before .before .before .before .argument-count .ensures .0) in
+    let q = c .before .before .before .before .before .before .before .before .before .before .before .part .ensures ∙ ap (λ (n : ℕ). take n (drop callHeadSize s)) (c .before .before .before .before .before .before .before .before .before .before .before .before .argument-count .ensures .0) in
     let r = take-most _ _ (replicate mostRoom 0xFF) (c .before .before .before .before .before .before .before .before .before .least .ensures .0) ∙ ap (λ (n : ℕ). take n (replicate mostRoom 0xFF)) (c .before .before .before .before .before .before .before .before .before .before .room-in .ensures) in (
-      unless _ some (same-text (by-parts (λ call a out. callText call h a out) p q r) (run .0)),
+      unless _ some (same-text (by-parts (λ call a out. directText call h a out) p q r) (run .0)),
       otherwise h some (run .1 .0 ∙ by-parts (λ call a out. afterCall call h a out) p q r),
     )
 

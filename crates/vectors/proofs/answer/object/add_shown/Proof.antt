@@ -26,9 +26,16 @@ returns-3 c =
     let at-enum-told3 = at-add-fields3 .before .before .before in
     rw (at-enum-told3 .enum-told3 .given .1) (at-add-fields3 .add-fields3 .ensures)
 
+returns-4 : tie.Need-returns-4
+unfolding shownTags rowsOf
+returns-4 c =
+    let at-add-fields4 = c .before .before in
+    let at-enum-told4 = at-add-fields4 .before .before .before in
+    rw (at-enum-told4 .enum-told4 .given .1) (at-add-fields4 .add-fields4 .ensures)
+
 pub add-shown-spec : {M : Type 1} → statement M
 add-shown-spec =
     tie.close
     (tie.spec
     (λ c. search needs) (λ c. search needs) (λ c κs. search needs) (λ c. search needs) (λ c. search needs) (λ c κs. search needs) (λ c. search needs)
-    (λ c. search needs) (λ c κs. search needs) (λ c. search needs) returns (λ c. search needs) returns-2 (λ c. search needs) returns-3)
+    (λ c. search needs) (λ c κs. search needs) (λ c. search needs) (λ c. search needs) (λ c κs. search needs) (λ c. search needs) returns (λ c. search needs) returns-2 (λ c. search needs) returns-3 (λ c. search needs) returns-4)
