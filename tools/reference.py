@@ -1,4 +1,4 @@
-"""The gate program of document 01, with requests 1 and 5 of document 02, in plain Python, and the session's calls, with request 6.
+"""The gate program of document 01, with requests 1, 5 and 7 of document 02, in plain Python, and the session's calls, with request 6.
 
 `run(data)` is what the program writes to standard output when its standard
 input is `data`.  The sections stand in the order of document 01.
@@ -162,6 +162,7 @@ SIGNED = [(0xEE, 2, 2, True), (0x30, 25, 25, False), (0x31, 4, 4, True), (0x32, 
 UNSIGNED = [(0xEE, 2, 2, True), (0x30, 25, 25, False), (0x31, 4, 4, True), (0x32, 4, 4, True), (0x33, 9, 9, True),
             (0x34, 16, 16, True), (0x35, 8, 8, False), (0xFE, 0, 0, False)]
 FINGERS = [(0xBC, 1, 862, False), (0xFE, 0, 0, True)]
+PICTURE = [(0xBC, 1, 16000, False), (0xFE, 0, 0, True)]
 
 
 def read_object(rows, data):
@@ -221,16 +222,23 @@ def get_response(second_status_byte):
 
 # --------------------------------------------------------------- Session
 
-NEEDED = {1: (1, 2, 3, 4), 2: (3, 4, 5), 3: (1, 2, 3, 4, 6), 4: (1, 2, 3, 4, 5, 6)}
-CHECK_OF_KIND = {1: 1, 2: 2, 3: 5, 4: 6}
+NEEDED = {1: (1, 2, 3, 4), 2: (3, 4, 5), 3: (1, 2, 3, 4, 6), 4: (1, 2, 3, 4, 5, 6), 5: (1, 2, 3, 4, 7), 6: (1, 2, 3, 4, 5, 7)}
+CHECK_OF_KIND = {1: 1, 2: 2, 3: 5, 4: 6, 5: 7}
+CHECKS = range(1, 8)
 UNNEEDED, AWAITED, PASSED, FAILED, OTHER_CARD = 0, 1, 2, 3, 4
 OPEN, GRANTED, REJECTED = 0, 1, 2
-STEP_LIMIT = 4096
-STAMP_SIZE = 45
+FINGER_MODES, PICTURE_MODES = (3, 4), (5, 6)       # those with a step 2
+STEP_LIMIT, PICTURE_LIMIT = 4096, 16384
+STAMP_SIZE = 46
+
+
+def step_limit(mode, step):
+    """How many bytes of data the step may have in all."""
+    return PICTURE_LIMIT if step == 2 and mode in PICTURE_MODES else STEP_LIMIT
 
 
 def opening_refusal(mode, date, aid):
-    if not 1 <= mode <= 4:
+    if mode not in NEEDED:
         return 1
     if not real_date(date):
         return 2
@@ -250,7 +258,7 @@ class Session:
         self.reading_cause = 0              # 0 or 16 to 22
         self.status = b"\x00\x00"
         self.outcomes = {check: AWAITED if check in NEEDED[mode] else UNNEEDED
-                         for check in range(1, 7)}
+                         for check in CHECKS}
         self.fascn = None                   # 25 bytes, from step 1's good end on
         self.expiry = None
         self.joined = b""                   # the step's data
@@ -282,7 +290,7 @@ class Session:
             self.reading_cause, self.status = 16, status
         elif status[0] == 0x61 and not data and command[1] == 0xC0:
             self.reading_cause = 17
-        elif len(self.joined) + len(data) > STEP_LIMIT:
+        elif len(self.joined) + len(data) > step_limit(self.mode, self.step):
             self.reading_cause = 18
         else:
             self.joined += data
@@ -299,7 +307,7 @@ class Session:
         if self.step == 0:
             return read_template(self.joined)
         if self.step == 2:
-            cause, fields = read_object(FINGERS, self.joined)
+            cause, fields = read_object(PICTURE if self.mode in PICTURE_MODES else FINGERS, self.joined)
             if cause == 0:
                 self.fields[0xBC] = fields[0xBC]
             return cause
@@ -323,16 +331,16 @@ class Session:
         if self.step == 0:
             self.step = 1
             self.next_command = get_data(bytes.fromhex("5FC104" if self.mode == 2 else "5FC102"))
-        elif self.step == 1 and self.mode in (3, 4):
+        elif self.step == 1 and self.mode in FINGER_MODES + PICTURE_MODES:
             self.step = 2
-            self.next_command = get_data(bytes.fromhex("DFC103"))
+            self.next_command = get_data(bytes.fromhex("DFC108" if self.mode in PICTURE_MODES else "DFC103"))
         else:
             self.step = 3
 
     def verdict(self, kind, yes, fascn):
         if self.step != 3:
             return 9
-        if not 1 <= kind <= 4:
+        if kind not in CHECK_OF_KIND:
             return 10
         if yes not in (0, 1):
             return 11
@@ -360,7 +368,7 @@ class Session:
     def cause(self):
         if self.reading_cause:
             return self.reading_cause
-        for check in range(1, 7):
+        for check in CHECKS:
             if self.outcomes[check] in (FAILED, OTHER_CARD):
                 return check
         return 0
@@ -377,7 +385,7 @@ class Session:
             bytes([self.mode, self.standing(), self.cause()])
             + self.status
             + bytes([self.step])
-            + bytes(self.outcomes[check] for check in range(1, 7))
+            + bytes(self.outcomes[check] for check in CHECKS)
             + self.date.to_bytes(4, "big")
             + (self.fascn or bytes(25))
             + (self.expiry or 0).to_bytes(4, "big")
