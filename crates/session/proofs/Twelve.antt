@@ -1,5 +1,5 @@
--- Document 01's proofreader's twelve, the stamp of its printed example, commands after a 6C (document 02, request 1), its object with the older elements, and the range of the parts (request 5):
--- one table, and one theorem over it.
+-- Document 01's proofreader's twelve, the stamp of its printed example before request 7 of document 02 and since, commands after a 6C (request 1), its object with the older elements, and the
+-- range of the parts (request 5), and what modes 5 and 6 need and read (request 7): one table, and one theorem over it.
 -- Assumes nothing.
 use mathlib.Core.Path.{_≡_, refl}
 use mathlib.Core.Bool.{cond}
@@ -60,15 +60,15 @@ opening date = record { mode = 2; date = date; aid = 0xA0 ∷ 0x00 ∷ 0x00 ∷ 
 template : List ℕ
 template = 0x61 ∷ 0x08 ∷ 0x4F ∷ 0x06 ∷ 0x20 ∷ 0x00 ∷ 0x00 ∷ 0x01 ∷ 0x01 ∷ 0x03 ∷ 0x90 ∷ 0x00 ∷ []
 
-answered-by : List ℕ → List Arguments → List Arguments
-answered-by bytes ts = Arguments.command 261 ∷ Arguments.answer 20480 bytes [] ∷ ts
+answered-by : tables.Figures → List ℕ → List Arguments → List Arguments
+answered-by f bytes ts = Arguments.command 261 ∷ Arguments.answer (f .objectSize) bytes [] ∷ ts
 
-example : ℕ → Reading
+example : tables.Figures → ℕ → Reading
 unfolding answered-by template opening sample fields
-example date =
-    reading (begins tables.since (opening date))
-    (answered-by template
-    (answered-by ((0x53 ∷ 0x27 ∷ []) ++ fields ++ (0x90 ∷ 0x00 ∷ []))
+example f date =
+    reading (begins f (opening date))
+    (answered-by f template
+    (answered-by f ((0x53 ∷ 0x27 ∷ []) ++ fields ++ (0x90 ∷ 0x00 ∷ []))
     (Arguments.verdict 3 1 (sample ++ (0xe2 ∷ [])) ∷ [])))
 
 -- The object of the example with the older elements: EE before 30, and 31, 32 and 33 straight after it.
@@ -93,7 +93,7 @@ older =
 -- What a field call gives once this object is read.
 older-field : ℕ → List ℕ
 unfolding answered-by template opening older
-older-field tag = fieldIn (reading (begins tables.since (opening 20110410)) (answered-by template (answered-by (older ++ (0x90 ∷ 0x00 ∷ [])) []))) tag
+older-field tag = fieldIn (reading (begins tables.since (opening 20110410)) (answered-by tables.since template (answered-by tables.since (older ++ (0x90 ∷ 0x00 ∷ [])) []))) tag
 
 -- Whether a session in mode 4 is in range that has this part at a place among those of step 1, the other parts of step 1 empty, and this part of step 2: 1 for in range.
 with-parts : ℕ → Part → Part → List ℕ
@@ -107,10 +107,10 @@ unfolding opening
 next-after calls = nextCommand (reading (begins tables.since (opening 20110410)) calls)
 
 -- What the definitions give, beside what documents 01 and 02 say. Document 01: a, its check value, b, c; d, e, f, g; h, with 53 27 and with 53 81 27, where all starts are one more; i; j and k,
--- the outcome of check 3 where the example is opened on its expiry, 20110410, and a day later; l; the example's stamp, "with outcome 7 after outcome 6". Request 1 of document 02: the command after 6C 0D to SELECT, after
+-- the outcome of check 3 where the example is opened on its expiry, 20110410, and a day later; l; the example's stamp, as document 01 prints it, by the figures before request 7, and since, "with outcome 7 after outcome 6". Request 1 of document 02: the command after 6C 0D to SELECT, after
 -- 61 0D to that, after 6C 08 to the GET RESPONSE, and after 6C 29 to GET DATA. Request 5: the places of 30, 34 and 35 in the object
 -- with the older elements; what a field call gives of it for EE, 30, 31, 32, 33, 34, which is absent, and 35; and the session's range "field parts inside 20,480" (request 7), with the first and the last part of step 1 and that of step 2, which begins at 4,096: they end at 20,480,
--- or one of them a byte past it.
+-- or one of them a byte past it. Request 7: the outcomes with which modes 4, 5 and 6 begin, and the command of step 2 in modes 4 and 5.
 pub table : List (List ℕ × List ℕ)
 unfolding sample digits fields opening template answered-by next-after buffer-length agency organization duns older-field with-parts
 table =
@@ -125,14 +125,15 @@ table =
     ∷ (object (0x53 ∷ 0x27 ∷ fields), 0 ∷ 4 ∷ 25 ∷ 0 ∷ 0 ∷ 31 ∷ 8 ∷ [])
     ∷ (object (0x53 ∷ 0x81 ∷ 0x27 ∷ fields), 0 ∷ 5 ∷ 25 ∷ 0 ∷ 0 ∷ 32 ∷ 8 ∷ [])
     ∷ (object (0x53 ∷ 0x80 ∷ fields), 20 ∷ replicate 6 0)
-    ∷ (tables.outcomeOf (example 20110410 .outcomes) 3 ∷ [], 2 ∷ [])
-    ∷ (tables.outcomeOf (example 20110411 .outcomes) 3 ∷ [], 3 ∷ [])
-    ∷ (next-after (answered-by (0x61 ∷ 0x00 ∷ []) []), 0x00 ∷ 0xC0 ∷ 0x00 ∷ 0x00 ∷ 0x00 ∷ [])
-    ∷ (stampOf (finding (example 20110410)), (0x02 ∷ 0x01 ∷ 0x00 ∷ 0x00 ∷ 0x00 ∷ 0x03 ∷ 0x00 ∷ 0x00 ∷ 0x02 ∷ 0x02 ∷ 0x02 ∷ 0x00 ∷ 0x00 ∷ 0x01 ∷ 0x32 ∷ 0xDC ∷ 0x4A ∷ []) ++ sample ++ (0xe2 ∷ 0x01 ∷ 0x32 ∷ 0xDC ∷ 0x4A ∷ []))
-    ∷ (next-after (answered-by (0x6C ∷ 0x0D ∷ []) []), 0x00 ∷ 0xA4 ∷ 0x04 ∷ 0x00 ∷ 0x0B ∷ 0xA0 ∷ 0x00 ∷ 0x00 ∷ 0x03 ∷ 0x67 ∷ 0x20 ∷ 0x00 ∷ 0x00 ∷ 0x01 ∷ 0x01 ∷ 0x03 ∷ 0x0D ∷ [])
-    ∷ (next-after (answered-by (0x6C ∷ 0x0D ∷ []) (answered-by (0x61 ∷ 0x0D ∷ []) [])), 0x00 ∷ 0xC0 ∷ 0x00 ∷ 0x00 ∷ 0x0D ∷ [])
-    ∷ (next-after (answered-by (0x6C ∷ 0x0D ∷ []) (answered-by (0x61 ∷ 0x0D ∷ []) (answered-by (0x6C ∷ 0x08 ∷ []) []))), 0x00 ∷ 0xC0 ∷ 0x00 ∷ 0x00 ∷ 0x08 ∷ [])
-    ∷ (next-after (answered-by template (answered-by (0x6C ∷ 0x29 ∷ []) [])), 0x00 ∷ 0xCB ∷ 0x3F ∷ 0xFF ∷ 0x05 ∷ 0x5C ∷ 0x03 ∷ 0x5F ∷ 0xC1 ∷ 0x04 ∷ 0x29 ∷ [])
+    ∷ (tables.outcomeOf (example tables.since 20110410 .outcomes) 3 ∷ [], 2 ∷ [])
+    ∷ (tables.outcomeOf (example tables.since 20110411 .outcomes) 3 ∷ [], 3 ∷ [])
+    ∷ (next-after (answered-by tables.since (0x61 ∷ 0x00 ∷ []) []), 0x00 ∷ 0xC0 ∷ 0x00 ∷ 0x00 ∷ 0x00 ∷ [])
+    ∷ (stampOf (finding (example tables.before 20110410)), (0x02 ∷ 0x01 ∷ 0x00 ∷ 0x00 ∷ 0x00 ∷ 0x03 ∷ 0x00 ∷ 0x00 ∷ 0x02 ∷ 0x02 ∷ 0x02 ∷ 0x00 ∷ 0x01 ∷ 0x32 ∷ 0xDC ∷ 0x4A ∷ []) ++ sample ++ (0xe2 ∷ 0x01 ∷ 0x32 ∷ 0xDC ∷ 0x4A ∷ []))
+    ∷ (stampOf (finding (example tables.since 20110410)), (0x02 ∷ 0x01 ∷ 0x00 ∷ 0x00 ∷ 0x00 ∷ 0x03 ∷ 0x00 ∷ 0x00 ∷ 0x02 ∷ 0x02 ∷ 0x02 ∷ 0x00 ∷ 0x00 ∷ 0x01 ∷ 0x32 ∷ 0xDC ∷ 0x4A ∷ []) ++ sample ++ (0xe2 ∷ 0x01 ∷ 0x32 ∷ 0xDC ∷ 0x4A ∷ []))
+    ∷ (next-after (answered-by tables.since (0x6C ∷ 0x0D ∷ []) []), 0x00 ∷ 0xA4 ∷ 0x04 ∷ 0x00 ∷ 0x0B ∷ 0xA0 ∷ 0x00 ∷ 0x00 ∷ 0x03 ∷ 0x67 ∷ 0x20 ∷ 0x00 ∷ 0x00 ∷ 0x01 ∷ 0x01 ∷ 0x03 ∷ 0x0D ∷ [])
+    ∷ (next-after (answered-by tables.since (0x6C ∷ 0x0D ∷ []) (answered-by tables.since (0x61 ∷ 0x0D ∷ []) [])), 0x00 ∷ 0xC0 ∷ 0x00 ∷ 0x00 ∷ 0x0D ∷ [])
+    ∷ (next-after (answered-by tables.since (0x6C ∷ 0x0D ∷ []) (answered-by tables.since (0x61 ∷ 0x0D ∷ []) (answered-by tables.since (0x6C ∷ 0x08 ∷ []) []))), 0x00 ∷ 0xC0 ∷ 0x00 ∷ 0x00 ∷ 0x08 ∷ [])
+    ∷ (next-after (answered-by tables.since template (answered-by tables.since (0x6C ∷ 0x29 ∷ []) [])), 0x00 ∷ 0xCB ∷ 0x3F ∷ 0xFF ∷ 0x05 ∷ 0x5C ∷ 0x03 ∷ 0x5F ∷ 0xC1 ∷ 0x04 ∷ 0x29 ∷ [])
     ∷ (object older, 0 ∷ 8 ∷ 25 ∷ 0 ∷ 0 ∷ 58 ∷ 8 ∷ [])
     ∷ (older-field 0xEE, buffer-length)
     ∷ (older-field 0x30, sample ++ (0xe2 ∷ []))
@@ -146,6 +147,11 @@ table =
     ∷ (with-parts 0 (part 20479 2) empty, 0 ∷ [])
     ∷ (with-parts 8 (part 20479 2) empty, 0 ∷ [])
     ∷ (with-parts 0 empty (part 16383 2), 0 ∷ [])
+    ∷ (tables.neededOutcomes tables.since 4, 1 ∷ 1 ∷ 1 ∷ 1 ∷ 1 ∷ 1 ∷ 0 ∷ [])
+    ∷ (tables.neededOutcomes tables.since 5, 1 ∷ 1 ∷ 1 ∷ 1 ∷ 0 ∷ 0 ∷ 1 ∷ [])
+    ∷ (tables.neededOutcomes tables.since 6, 1 ∷ 1 ∷ 1 ∷ 1 ∷ 1 ∷ 0 ∷ 1 ∷ [])
+    ∷ (tables.commandBytes 4 [] 2 tables.NextCommand.ofStep, 0x00 ∷ 0xCB ∷ 0x3F ∷ 0xFF ∷ 0x05 ∷ 0x5C ∷ 0x03 ∷ 0xDF ∷ 0xC1 ∷ 0x03 ∷ 0x00 ∷ [])
+    ∷ (tables.commandBytes 5 [] 2 tables.NextCommand.ofStep, 0x00 ∷ 0xCB ∷ 0x3F ∷ 0xFF ∷ 0x05 ∷ 0x5C ∷ 0x03 ∷ 0xDF ∷ 0xC1 ∷ 0x08 ∷ 0x00 ∷ [])
     ∷ []
 
 pub twelve : map (λ row. row .0) table ≡ map (λ row. row .1) table

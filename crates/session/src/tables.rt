@@ -16,11 +16,11 @@ use crate::figures::UNNEEDED;
 use crate::figures::USUAL_CAPACITY;
 use card::date::ILL_FORMED_DATE;
 use card::object::AGENCY_TAG;
+use card::object::BIOMETRIC_TAG;
 use card::object::BUFFER_LENGTH_TAG;
 use card::object::DUNS_TAG;
 use card::object::EXPIRY_TAG;
 use card::object::FASCN_TAG;
-use card::object::BIOMETRIC_TAG;
 use card::object::GUID_TAG;
 use card::object::Kind;
 use card::object::ORGANIZATION_TAG;
@@ -63,7 +63,11 @@ pub(crate) fn needs(mode: u8, check: u8) -> bool
         return (check == 1) | (check == 2) | (check == 3) | (check == 4) | (check == 6);
     }
     if mode == 4 {
-        return (check == 1) | (check == 2) | (check == 3) | (check == 4) | (check == 5)
+        return (check == 1)
+            | (check == 2)
+            | (check == 3)
+            | (check == 4)
+            | (check == 5)
             | (check == 6);
     }
     if mode == 5 {
