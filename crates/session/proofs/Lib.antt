@@ -65,5 +65,7 @@ pub mod SameFindingLaws
 pub mod EndedLaws
 -- ElementsLaws: the fields of step 1's object that a finding does not use
 pub mod ElementsLaws
+-- BeforeLaws: modes 1 to 4 before and since request 7 of document 02
+pub mod BeforeLaws
 -- Twelve: document 01's worked examples, and commands after a 6C
 pub mod Twelve
