@@ -62,18 +62,10 @@ pub(crate) fn call_of(name: &[u8]) -> VectorCall
         VectorCall::GetData(Kind::Signed, 10),
         c,
     );
-    let c = row(
-        name,
-        b"getpicture",
-        VectorCall::GetData(Kind::Picture, 12),
-        c,
-    );
-    let c = row(
-        name,
-        b"getfingers",
-        VectorCall::GetData(Kind::Fingers, 12),
-        c,
-    );
+    let picture = VectorCall::GetData(Kind::Picture, 12);
+    let c = row(name, b"getpicture", picture, c);
+    let fingers = VectorCall::GetData(Kind::Fingers, 12);
+    let c = row(name, b"getfingers", fingers, c);
     let c = row(
         name,
         b"getunsigned",
