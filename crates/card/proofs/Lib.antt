@@ -23,6 +23,8 @@ pub mod ObjectLaws
 pub mod MadeLaws
 -- OlderLaws: objects with the older elements
 pub mod OlderLaws
+-- PictureLaws: the object with the picture
+pub mod PictureLaws
 -- DateLaws: dates, and the order of days
 pub mod DateLaws
 -- CommandLaws: commands, and the buffer that they are written to

@@ -64,7 +64,7 @@ made-most (given {r} {v = v} form value low high fits m) =
     omega (arith, length-append (encoded form (r .0) value) v, encoded-length form (r .0) value fits, tag-small (r .0), form-small form (length value) fits)
 
 -- so the longest form of a length has room for it
-made-fits : (k : Kind) {v : List ℕ} {values : List (List ℕ)} → Made (rowsOf k) v values → fitsForm 3 (length v) ≡ true
+pub made-fits : (k : Kind) {v : List ℕ} {values : List (List ℕ)} → Made (rowsOf k) v values → fitsForm 3 (length v) ≡ true
 unfolding fitsForm rowsOf
 made-fits k {v} m = let h = made-most m in lt-ltb (length v) 65536 (omega (arith, h, rows-most k))
   where

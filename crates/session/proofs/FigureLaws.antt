@@ -41,6 +41,11 @@ pub stamp-long : 1 < stampSize since
 unfolding stampSize
 stamp-long = omega arith
 
+-- the object buffer has 8,192 bytes before the picture modes, 20,480 since
+pub object-sizes : (before .objectSize ≡ 8192) × (since .objectSize ≡ 20480)
+unfolding objectSize
+object-sizes = (refl, refl)
+
 -- a stamp has 45 bytes before the picture modes, 46 since
 pub stamp-sizes : (stampSize before ≡ 45) × (stampSize since ≡ 46)
 unfolding stampSize

@@ -1,5 +1,5 @@
 -- Document 01's proofreader's twelve, the stamp of its printed example before request 7 of document 02 and since, commands after a 6C (request 1), its object with the older elements, and the
--- range of the parts (request 5), and what modes 5 and 6 need and read (request 7): one table, and one theorem over it.
+-- range of the parts (request 5), and the command of step 2 (request 7): one table, and one theorem over it.
 -- Assumes nothing.
 use mathlib.Core.Path.{_≡_, refl}
 use mathlib.Core.Bool.{cond}
@@ -110,7 +110,7 @@ next-after calls = nextCommand (reading (begins tables.since (opening 20110410))
 -- the outcome of check 3 where the example is opened on its expiry, 20110410, and a day later; l; the example's stamp, as document 01 prints it, by the figures before request 7, and since, "with outcome 7 after outcome 6". Request 1 of document 02: the command after 6C 0D to SELECT, after
 -- 61 0D to that, after 6C 08 to the GET RESPONSE, and after 6C 29 to GET DATA. Request 5: the places of 30, 34 and 35 in the object
 -- with the older elements; what a field call gives of it for EE, 30, 31, 32, 33, 34, which is absent, and 35; and the session's range "field parts inside 20,480" (request 7), with the first and the last part of step 1 and that of step 2, which begins at 4,096: they end at 20,480,
--- or one of them a byte past it. Request 7: the outcomes with which modes 4, 5 and 6 begin, and the command of step 2 in modes 4 and 5.
+-- or one of them a byte past it. Request 7: the command of step 2 in modes 4 and 5.
 pub table : List (List ℕ × List ℕ)
 unfolding sample digits fields opening template answered-by next-after buffer-length agency organization duns older-field with-parts
 table =
@@ -147,9 +147,6 @@ table =
     ∷ (with-parts 0 (part 20479 2) empty, 0 ∷ [])
     ∷ (with-parts 8 (part 20479 2) empty, 0 ∷ [])
     ∷ (with-parts 0 empty (part 16383 2), 0 ∷ [])
-    ∷ (tables.neededOutcomes tables.since 4, 1 ∷ 1 ∷ 1 ∷ 1 ∷ 1 ∷ 1 ∷ 0 ∷ [])
-    ∷ (tables.neededOutcomes tables.since 5, 1 ∷ 1 ∷ 1 ∷ 1 ∷ 0 ∷ 0 ∷ 1 ∷ [])
-    ∷ (tables.neededOutcomes tables.since 6, 1 ∷ 1 ∷ 1 ∷ 1 ∷ 1 ∷ 0 ∷ 1 ∷ [])
     ∷ (tables.commandBytes 4 [] 2 tables.NextCommand.ofStep, 0x00 ∷ 0xCB ∷ 0x3F ∷ 0xFF ∷ 0x05 ∷ 0x5C ∷ 0x03 ∷ 0xDF ∷ 0xC1 ∷ 0x03 ∷ 0x00 ∷ [])
     ∷ (tables.commandBytes 5 [] 2 tables.NextCommand.ofStep, 0x00 ∷ 0xCB ∷ 0x3F ∷ 0xFF ∷ 0x05 ∷ 0x5C ∷ 0x03 ∷ 0xDF ∷ 0xC1 ∷ 0x08 ∷ 0x00 ∷ [])
     ∷ []
