@@ -1726,7 +1726,7 @@ def main():
     readme = ["# gate_examples: example scripts for `gate`", "",
               "Each file of `data` is an input of the program. `args` has their names, one to a line; `stdout` has, in that order, each name on a line",
               "of its own and then what the program prints for that file. The last line printed is the stamp, or `(refused 4)` where no session is open.", "",
-              "`mode`, `cause`, `step` and the numbers of checks, causes and refusals are document 01's. A name that begins with `cause_` has that cause in its stamp; one",
+              "`mode`, `cause`, `step` and the numbers of checks, causes and refusals are those of documents 01 and 02. A name that begins with `cause_` has that cause in its stamp; one",
               "that ends in `_granted` has a stamp that says granted; one that begins with `refused_` and a number has a line refused with that number; one that begins with `bad_` has a bad line;",
               "one that begins with `corrected_` has a 6C after which the same command is sent again; one that begins with `older_` has an object with older elements;",
               "one that begins with `picture_` reads a picture object.",

@@ -11,7 +11,7 @@ use lib.Seq.{drop-cons}
 use Rattle.common.specs.Lists.{listOf, all}
 use Rattle.card.specs.Object.{rowTag, endTag, rowsOf}
 use Rattle.card.specs.declared.object.Kind.the-variants.{Signed, Unsigned, Fingers, Picture}
-use Rattle.session.specs.Tables.{before, since, modeOpens, goodKind, needs, checkServed, neededAt, neededOutcomes, stepAfter, kindAt, stampLayout, failed, otherCard, lowestFrom, step1Tags, step2Tags}
+use Rattle.session.specs.Tables.{before, since, modeInRange, modeOpens, goodKind, needs, checkServed, neededAt, neededOutcomes, stepAfter, kindAt, stampLayout, failed, otherCard, lowestFrom, step1Tags, step2Tags}
 use Rattle.session.specs.Ranges.{outcomesInRange}
 
 -- ---- the tables, value by value
@@ -20,6 +20,11 @@ use Rattle.session.specs.Ranges.{outcomesInRange}
 pub modes-open : (map (modeOpens before) (0 ∷ 1 ∷ 4 ∷ 5 ∷ 6 ∷ 7 ∷ []) ≡ false ∷ true ∷ true ∷ false ∷ false ∷ false ∷ [])
     × (map (modeOpens since) (0 ∷ 1 ∷ 4 ∷ 5 ∷ 6 ∷ 7 ∷ []) ≡ false ∷ true ∷ true ∷ true ∷ true ∷ false ∷ [])
 modes-open = (refl, refl)
+
+-- the modes in range, of the same: those of a session's range and of an opening that begins a history
+pub modes-in-range : (map (modeInRange before) (0 ∷ 1 ∷ 4 ∷ 5 ∷ 6 ∷ 7 ∷ []) ≡ false ∷ true ∷ true ∷ false ∷ false ∷ false ∷ [])
+    × (map (modeInRange since) (0 ∷ 1 ∷ 4 ∷ 5 ∷ 6 ∷ 7 ∷ []) ≡ false ∷ true ∷ true ∷ true ∷ true ∷ false ∷ [])
+modes-in-range = (refl, refl)
 
 pub good-kinds : (map (goodKind before) (0 ∷ 1 ∷ 4 ∷ 5 ∷ 6 ∷ []) ≡ false ∷ true ∷ true ∷ false ∷ false ∷ [])
     × (map (goodKind since) (0 ∷ 1 ∷ 4 ∷ 5 ∷ 6 ∷ []) ≡ false ∷ true ∷ true ∷ true ∷ false ∷ [])

@@ -182,7 +182,7 @@ abbrev pub stepAfter : ℕ → ℕ → ℕ
 stepAfter mode step = cond (eqb step 0) 1 (cond (eqb step 1 && hasStep2 mode) 2 3)
 
 -- "steps 0 and 1 fill from byte 0, step 2 fills from byte 4,096, each at most 4,096 bytes"; since request 7 the object buffer is "4,096 as now, then 16,384 for step 2".
--- These figures do not unfold by themselves either.
+-- `baseOf` and `capacity` do not unfold by themselves either.
 abbrev pub usualCapacity : ℕ
 usualCapacity = 4096
 
