@@ -13,7 +13,7 @@ use lib.ListN.{length, getD}
 use Rattle.common.specs.Lists.{sameBytes, isIn}
 use Rattle.common.proofs.ListsLaws.{all-at}
 use Rattle.common.proofs.ListsLaws.{same-bytes, same-refl}
-use Rattle.session.specs.Tables.{Figures, since, checks, goodKind, needs, checkServed, outcomeOf, passed, unneeded, failed, otherCard, verdictOutcome, expiryOutcome, listOutcome, lowestFrom, causeOf, allPassed, standingOf, fascnRead, keyRead, expiryRead}
+use Rattle.session.specs.Tables.{Figures, since, checks, checksOf, goodKind, needs, checkServed, outcomeOf, passed, unneeded, failed, otherCard, verdictOutcome, expiryOutcome, listOutcome, lowestFrom, causeOf, allPassed, standingOf, fascnRead, keyRead, expiryRead}
 use Rattle.session.specs.Reading.{Opening, StepOne, Verdict, Found, Reading, ownFascn}
 use Rattle.session.specs.Finding.{verdictOn, finding, standing, Granted}
 use Rattle.common.proofs.TestLaws.{clash, and-left, and-right, either}
@@ -22,18 +22,18 @@ use Rattle.session.proofs.Invariant.{Stage, VerdictGave, ExpiryJudged, 
 
 -- ---- checks and kinds
 
+-- what holds of the checks of each mode
+by-mode : (P : List ℕ → Type 0) → P (1 ∷ 2 ∷ 3 ∷ 4 ∷ []) → P (3 ∷ 4 ∷ 5 ∷ []) → P (1 ∷ 2 ∷ 3 ∷ 4 ∷ 6 ∷ []) → P (1 ∷ 2 ∷ 3 ∷ 4 ∷ 5 ∷ 6 ∷ []) → P (1 ∷ 2 ∷ 3 ∷ 4 ∷ 7 ∷ []) → P (1 ∷ 2 ∷ 3 ∷ 4 ∷ 5 ∷ 7 ∷ [])
+    → (mode : ℕ) → P (checksOf mode)
+by-mode P a b c d e f mode = either P (eqb mode 1) a (either P (eqb mode 2) b (either P (eqb mode 3) c (either P (eqb mode 4) d (either P (eqb mode 5) e f))))
+
 -- every mode needs checks 3 and 4
 abbrev Both : List ℕ → Type 0
 Both cs = (isIn 3 cs ≡ true) × (isIn 4 cs ≡ true)
 
 needs-both : (mode : ℕ) → (needs mode 3 ≡ true) × (needs mode 4 ≡ true)
 unfolding needs
-needs-both mode =
-    either Both (eqb mode 1) {x = 1 ∷ 2 ∷ 3 ∷ 4 ∷ []} (refl, refl)
-    (either Both (eqb mode 2) {x = 3 ∷ 4 ∷ 5 ∷ []} (refl, refl)
-    (either Both (eqb mode 3) {x = 1 ∷ 2 ∷ 3 ∷ 4 ∷ 6 ∷ []} (refl, refl)
-    (either Both (eqb mode 4) {x = 1 ∷ 2 ∷ 3 ∷ 4 ∷ 5 ∷ 6 ∷ []} (refl, refl)
-    (either Both (eqb mode 5) {x = 1 ∷ 2 ∷ 3 ∷ 4 ∷ 7 ∷ []} {y = 1 ∷ 2 ∷ 3 ∷ 4 ∷ 5 ∷ 7 ∷ []} (refl, refl) (refl, refl)))))
+needs-both = by-mode Both (refl, refl) (refl, refl) (refl, refl) (refl, refl) (refl, refl) (refl, refl)
 
 -- the kinds of a reading by the figures since
 kind-in : (r : Reading) (kind : ℕ) → r .figures ≡ since → goodKind (r .figures) kind ≡ goodKind since kind
@@ -172,12 +172,7 @@ SomeKind cs = (kind : ℕ) × ((goodKind since kind ≡ true) × (isIn (checkSer
 
 a-kind : (mode : ℕ) → (kind : ℕ) × ((goodKind since kind ≡ true) × (needs mode (checkServed kind) ≡ true))
 unfolding needs checkServed
-a-kind mode =
-    either SomeKind (eqb mode 1) {x = 1 ∷ 2 ∷ 3 ∷ 4 ∷ []} (1, (refl, refl))
-    (either SomeKind (eqb mode 2) {x = 3 ∷ 4 ∷ 5 ∷ []} (3, (refl, refl))
-    (either SomeKind (eqb mode 3) {x = 1 ∷ 2 ∷ 3 ∷ 4 ∷ 6 ∷ []} (1, (refl, refl))
-    (either SomeKind (eqb mode 4) {x = 1 ∷ 2 ∷ 3 ∷ 4 ∷ 5 ∷ 6 ∷ []} (1, (refl, refl))
-    (either SomeKind (eqb mode 5) {x = 1 ∷ 2 ∷ 3 ∷ 4 ∷ 7 ∷ []} {y = 1 ∷ 2 ∷ 3 ∷ 4 ∷ 5 ∷ 7 ∷ []} (1, (refl, refl)) (1, (refl, refl))))))
+a-kind = by-mode SomeKind (1, (refl, refl)) (3, (refl, refl)) (1, (refl, refl)) (1, (refl, refl)) (1, (refl, refl)) (1, (refl, refl))
 
 abbrev is-given : Option Verdict → Bool
 is-given Option.none = false
