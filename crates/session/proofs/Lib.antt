@@ -1,5 +1,5 @@
--- The laws of this crate's definitions, from the general to the particular. A crate above cites HistoryLaws and PromiseLaws, and the clauses of the contracts.
--- FigureLaws: document 01's figures
+-- The laws of this crate's definitions, from the general to the particular. Crates above cite the clauses of the contracts, PromiseLaws before all, and laws of single calls.
+-- FigureLaws: the figures of documents 01 and 02, before and since request 7
 pub mod FigureLaws
 -- BytesLaws: lists of bytes
 pub mod BytesLaws
@@ -9,7 +9,7 @@ pub mod BufferLaws
 pub mod RuleLaws
 -- OutcomeLaws: outcomes
 pub mod OutcomeLaws
--- TablesLaws: the tables that the code walks
+-- TablesLaws: the tables, value by value, and as the code walks them
 pub mod TablesLaws
 -- RangesLaws: what a session in range tells of its values
 pub mod RangesLaws
@@ -67,5 +67,5 @@ pub mod EndedLaws
 pub mod ElementsLaws
 -- BeforeLaws: modes 1 to 4 before and since request 7 of document 02
 pub mod BeforeLaws
--- Twelve: document 01's worked examples, and commands after a 6C
+-- Twelve: worked examples of documents 01 and 02
 pub mod Twelve

@@ -2,7 +2,7 @@
 -- Assumes nothing.
 use mathlib.Core.Path.{_≡_, refl, sym, ap, ap₂, _∙_}
 use mathlib.Core.Bool.{Bool, true, false, cond}
-use mathlib.Core.List.{List, [], _∷_}
+use mathlib.Core.List.{List, [], _∷_, map}
 use Prim.Native.Nat.{ℕ, zero, suc}
 use native.Mathlib.Omega.{arith}
 use lib.Dec.{eqb}
@@ -37,6 +37,13 @@ reached h = on-list (h .calls) (begins since (h .opening)) (h .object) (begins-h
 all-numbers : (h : History) → numbers (startHost h) (h .calls) ≡ refusals (begins since (h .opening)) (argumentsIn h)
 unfolding opened
 all-numbers h = numbers-are (h .calls) (begins since (h .opening)) (h .object) (begins-holds (h .opening) (h .object) (h .good)) (h .lent)
+
+-- ---- the calls that have a number: all but the field call
+
+pub calls-numbered : (room size tag kind yesNo : ℕ) (bytes cancelled fascn : List ℕ)
+    → map hasNumber (Arguments.command room ∷ Arguments.answer size bytes cancelled ∷ Arguments.verdict kind yesNo fascn ∷ Arguments.field size tag ∷ Arguments.stamp room ∷ Arguments.preview kind yesNo fascn room ∷ [])
+    ≡ true ∷ true ∷ true ∷ false ∷ true ∷ true ∷ []
+calls-numbered room size tag kind yesNo bytes cancelled fascn = refl
 
 -- ---- number 4 is none of the reading's
 
