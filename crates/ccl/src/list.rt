@@ -36,6 +36,17 @@ impl ListRead {
             ListRead::TooFewPlaces => 21,
         }
     }
+
+    // What stands beside the number: the count of keys, the number of the malformed line, or 0.
+    pub fn beside(self) -> usize
+        ensures { λ r. ⌜ r ≡ readAnswer self .1 ⌝ }
+    {
+        match self {
+            ListRead::Keys(n) => n,
+            ListRead::Malformed(n) => n,
+            ListRead::TooFewPlaces => 0,
+        }
+    }
 }
 
 impl ListWritten {
@@ -47,6 +58,17 @@ impl ListWritten {
             ListWritten::Keys(_) => 0,
             ListWritten::KeyTooLarge => 22,
             ListWritten::ShortBuffer => 21,
+        }
+    }
+
+    // What stands beside the number: the count of keys, or 0.
+    pub fn beside(self) -> usize
+        ensures { λ r. ⌜ r ≡ writeAnswer self .1 ⌝ }
+    {
+        match self {
+            ListWritten::Keys(n) => n,
+            ListWritten::KeyTooLarge => 0,
+            ListWritten::ShortBuffer => 0,
         }
     }
 }

@@ -24,6 +24,17 @@ impl ListMerged {
             ListMerged::TooFewPlaces => 26,
         }
     }
+
+    // What stands beside the number: the count of keys, or 0.
+    pub fn beside(self) -> usize
+        ensures { λ r. ⌜ r ≡ mergeAnswer self .1 ⌝ }
+    {
+        match self {
+            ListMerged::Keys(n) => n,
+            ListMerged::NotAscending => 0,
+            ListMerged::TooFewPlaces => 0,
+        }
+    }
 }
 
 // Whether each key is below the one after it.

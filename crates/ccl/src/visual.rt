@@ -41,6 +41,18 @@ impl TypedLookup {
             TypedLookup::Malformed(_) => MALFORMED_VISUAL,
         }
     }
+
+    // What stands beside the number: 1 or 0 for yes or no, the number of the malformed line, or 0.
+    pub fn beside(self) -> usize
+        ensures { λ r. ⌜ r ≡ typedAnswer self .1 ⌝ }
+    {
+        match self {
+            TypedLookup::Listed => 1,
+            TypedLookup::NotListed => 0,
+            TypedLookup::BadEntry => 0,
+            TypedLookup::Malformed(n) => n,
+        }
+    }
 }
 
 // How many bytes open a line, `(cin (`, and close it, `))` and 0A; `openingSize` and `closingSize` in the definitions.

@@ -1,7 +1,7 @@
 -- What open, answer, verdict, field and stamp give, by the number that refuses them: where it is 0, and where it is not.
 -- Assumes nothing.
 use mathlib.Core.Path.{_≡_, refl, sym, ap, _∙_}
-use mathlib.Core.Bool.{true, false, cond, not, _&&_, _||_}
+use mathlib.Core.Bool.{Bool, true, false, cond, not, _&&_, _||_}
 use mathlib.Core.List.{List, [], _∷_}
 use Prim.Native.Nat.{ℕ, _+_, _-_, _≤_}
 use native.Mathlib.Nat.{add-sub-cancel-left}
@@ -10,14 +10,14 @@ use lib.Dec.{eqb, leb}
 use lib.ListN.{length, take, drop}
 use lib.Seq.{drop-drop}
 use Rattle.common.specs.Lists.{overFront}
-use Rattle.card.specs.Object.{bytesAt}
+use Rattle.card.specs.Object.{empty, bytesAt}
 use Rattle.card.specs.declared.object.Part.{Part}
 use Rattle.card.specs.Command.{aidMost}
 use Rattle.card.proofs.CommandLaws.{aid-most}
 use Rattle.session.specs.Tables.{since, objectSize, baseOf, stepRead, stepOfTag, statusSize, answerMost, dataOf, statusBytes, stampSize}
 use Rattle.session.specs.Condition.{openConditions, answerConditions, fieldRefused, stampConditions}
 use Rattle.session.specs.Ranges.{inRange, outOfRange}
-use Rattle.session.specs.Operation.{openRefusal, answerRefusal, answerTakenSession, answerTakenBuffer, answerOf, answerBuffer, stampIn, stampRefusal, stampBuffer, partFor, fieldOf}
+use Rattle.session.specs.Operation.{openRefusal, answerRefusal, answerTakenSession, answerTakenBuffer, answerOf, answerBuffer, stampIn, stampRefusal, stampBuffer, partFor, fieldPlace, fieldOf}
 use Rattle.session.specs.declared.state.Session.{Session}
 use Rattle.common.proofs.TestLaws.{and-left, and-right, or-left, or-right}
 use Rattle.common.proofs.ConditionLaws.{none-fit}
@@ -75,11 +75,6 @@ answer-refused s object bytes cancelled e f =
 
 -- ---- field
 
--- one of the tests fits
-pub field-refused : (s : Session) (object : List ℕ) (tag : ℕ) → outOfRange s || fieldRefused since (s .opening .mode) (s .progress .step) (length object) tag ≡ true → [] ≡ fieldOf s object tag
-unfolding fieldOf
-field-refused s object tag e = rw e
-
 -- none fits: the session is in range, and the buffer has its size
 pub field-accepted : (s : Session) (n tag : ℕ) → outOfRange s || fieldRefused since (s .opening .mode) (s .progress .step) n tag ≡ false → (inRange s ≡ true) × (n ≡ objectSize)
 field-accepted s n tag e =
@@ -89,15 +84,33 @@ field-accepted s n tag e =
       eqb-true n objectSize (not-false (eqb n objectSize) (or-left sized other (or-right (outOfRange s) (sized || other) e))),
     )
 
-pub field-read : (s : Session) (object : List ℕ) (tag : ℕ) → outOfRange s || fieldRefused since (s .opening .mode) (s .progress .step) (length object) tag ≡ false
-    → let step = stepOfTag tag in bytesAt (drop (baseOf step) object) (partFor s step tag) ≡ fieldOf s object tag
-unfolding fieldOf
-field-read s object tag e = rw e
+-- where the value lies, by the tests
+pub place-refused : (s : Session) (size tag : ℕ) → outOfRange s || fieldRefused since (s .opening .mode) (s .progress .step) size tag ≡ true → empty ≡ fieldPlace s size tag
+unfolding fieldPlace
+place-refused s size tag e = rw e
 
--- a part of a step's data as a part of the object buffer
-pub part-in-buffer : (object : List ℕ) (base : ℕ) (p : Part) → take (base + p .start + p .len - (base + p .start)) (drop (base + p .start) object) ≡ bytesAt (drop base object) p
+pub place-read : (s : Session) (size tag : ℕ) → outOfRange s || fieldRefused since (s .opening .mode) (s .progress .step) size tag ≡ false
+    → let step = stepOfTag tag in record { start = baseOf step + partFor s step tag .start; len = partFor s step tag .len } ≡ fieldPlace s size tag
+unfolding fieldPlace
+place-read s size tag e = rw e
+
+-- the value is the bytes at its place
+pub place-value : (s : Session) (object : List ℕ) (tag : ℕ) → bytesAt object (fieldPlace s (length object) tag) ≡ fieldOf s object tag
+unfolding fieldPlace fieldOf bytesAt
+place-value s object tag = by-tests (outOfRange s || fieldRefused since (s .opening .mode) (s .progress .step) (length object) tag)
+  where
+    part : Part
+    part = partFor s (stepOfTag tag) tag
+
+    by-tests : (b : Bool) → let p = cond b empty (record { start = baseOf (stepOfTag tag) + part .start; len = part .len }) in
+        take (p .len) (drop (p .start) object) ≡ cond b [] (take (part .len) (drop (part .start) (drop (baseOf (stepOfTag tag)) object)))
+    by-tests true = refl
+    by-tests false = ap (take (part .len)) (sym (drop-drop (part .start) (baseOf (stepOfTag tag)) object))
+
+-- a part that is cut out by its two ends
+pub part-cut : (object : List ℕ) (p : Part) → take (p .start + p .len - p .start) (drop (p .start) object) ≡ bytesAt object p
 unfolding bytesAt
-part-in-buffer object base p = rw (add-sub-cancel-left, drop-drop)
+part-cut object p = rw add-sub-cancel-left
 
 -- ---- stamp
 

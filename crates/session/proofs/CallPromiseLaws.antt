@@ -12,20 +12,20 @@ use lib.ListN.{length, getD, take, drop}
 use lib.Seq.{take-at}
 use Rattle.common.specs.Lists.{overFront}
 use Rattle.card.specs.Date.{realDate}
+use Rattle.card.specs.Object.{bytesAt}
+use Rattle.card.specs.declared.object.Part.{Part}
 use Rattle.common.proofs.ListsLaws.{front-at}
 use Rattle.session.specs.Tables.{since, modeOpens, stampSize}
 use Rattle.session.specs.Condition.{openConditions}
 use Rattle.session.specs.Reading.{Arguments, refusedBy}
 use Rattle.session.specs.Finding.{finding, stampOf}
-use Rattle.session.specs.Operation.{replyNumber, given, commandGiven, dead, opened, openRefusal, openOf, commandOf, commandBuffer, answerRefusal, answerOf, answerBuffer, verdictOf, fieldOf, stampAnswer, stampBuffer, previewRefusal, previewOf}
-use Rattle.session.specs.Promise.{Call, Bytes, goodOpening, History, finish, readingOf, Result, StampSays, OpenedBy, OpenPromise, CommandPromise, AnswerPromise, VerdictPromise, FieldPromise, StampPromise, PreviewPromise}
+use Rattle.session.specs.Operation.{dead, opened, openRefusal, openOf, commandOf, commandBuffer, answerRefusal, answerOf, answerBuffer, verdictOf, fieldPlace, fieldOf, stampAnswer, stampBuffer, previewRefusal, previewOf}
+use Rattle.session.specs.Promise.{Call, Bytes, goodOpening, History, finish, readingOf, Result, StampSays, OpenedBy, OpenPromise, CommandPromise, AnswerPromise, VerdictPromise, FieldPromise, PlacePromise, StampPromise, PreviewPromise}
 use Rattle.session.specs.declared.state.Session.{Session}
-use Rattle.session.specs.declared.state.Reply.{Reply}
-use Rattle.session.specs.declared.state.Answered.{Answered}
-use Rattle.session.specs.declared.state.Commanded.{Commanded}
 use Rattle.common.proofs.TestLaws.{and-both}
 use Rattle.session.proofs.FigureLaws.{opens-in-range, stamp-long}
 use Rattle.common.proofs.ConditionLaws.{none-fit}
+use Rattle.session.proofs.CallLaws.{place-value}
 use Rattle.session.proofs.StampLaws.{stamp-length, stamp-second}
 use Rattle.session.proofs.RunLaws.{zero-or}
 use Rattle.session.proofs.HistoryLaws.{with-call, extended}
@@ -55,10 +55,10 @@ opened-zero : (k : ℕ) (s d x : Session) (n : ℕ) (b : Bool) → eqb k 0 ≡ b
 opened-zero k s d x n true p e z = (eqb-true k 0 p, ap (λ (y : ℕ × Session). y .1) e)
 opened-zero k s d x n false p e z = absurd (eqb-false k 0 p (sym (ap (λ (y : ℕ × Session). y .0) e) ∙ z))
 
-pub open-promise : (mode date : ℕ) (aid : List ℕ) (r : Answered) → given r ≡ openOf mode date aid → OpenPromise mode date aid r
+pub open-promise : (mode date : ℕ) (aid : List ℕ) {k : ℕ} {x : Session} → (k, x) ≡ openOf mode date aid → OpenPromise mode date aid k x
 unfolding openOf
-open-promise mode date aid r e z object =
-    let c = opened-zero (openRefusal mode date aid) (opened mode date aid) dead (r .session) (replyNumber (r .reply)) (eqb (openRefusal mode date aid) 0) refl e z in
+open-promise mode date aid {k} {x} e z object =
+    let c = opened-zero (openRefusal mode date aid) (opened mode date aid) dead x k (eqb (openRefusal mode date aid) 0) refl e z in
     subst (λ (s : Session). OpenedBy (record { mode = mode; date = date; aid = aid }) s object) (sym (c .1)) (opening-begins mode date aid object (c .0))
 
 -- ---- what a call gives, of the definitions and of the code
@@ -68,16 +68,16 @@ given-by p q r = rw (p, q, r)
 
 -- ---- command
 
-pub command-promise : (s : Session) (before left : List ℕ) (r : Commanded) → commandGiven r ≡ commandOf s (length before) → left ≡ commandBuffer s before → CommandPromise s before left r
-command-promise s before left r e b h es =
+pub command-promise : (s : Session) (before left : List ℕ) {k m : ℕ} {x : Session} → (k, m, x) ≡ commandOf s (length before) → left ≡ commandBuffer s before → CommandPromise s before left k m x
+command-promise s before left {k} {m} {x} e b h es =
     let p = promise h in
-    let g : commandGiven r ≡ commandOf (finish h .session) (length before) = e ∙ ap (λ (x : Session). commandOf x (length before)) es in
+    let g : (k, m, x) ≡ commandOf (finish h .session) (length before) = e ∙ ap (λ (x : Session). commandOf x (length before)) es in
     record {
       number = ap (λ (x : ℕ × ℕ × Session). x .0) g ∙ p .command-number before;
       count = ap (λ (x : ℕ × ℕ × Session). x .1) g ∙ p .command-count before;
       bytes = b ∙ ap (λ (x : Session). commandBuffer x before) es ∙ p .command-bytes before;
       result = given-by (ap (λ (x : ℕ × ℕ × Session). x .0) g) (ap (λ (x : ℕ × ℕ × Session). x .1) g) (b ∙ ap (λ (x : Session). commandBuffer x before) es);
-      extended = extended h (Call.command before) (r .session) (finish h .object) tt (ap (λ (x : ℕ × ℕ × Session). record { session = x .2; object = finish h .object }) (sym g));
+      extended = extended h (Call.command before) x (finish h .object) tt (ap (λ (x : ℕ × ℕ × Session). record { session = x .2; object = finish h .object }) (sym g));
     }
 
 -- ---- answer
@@ -87,29 +87,29 @@ answer-number-is : (s : Session) (object bytes cancelled : List ℕ) → answerO
 unfolding answerOf
 answer-number-is s object bytes cancelled = zero-or (answerRefusal s (length object) (length bytes)) _ _ _ refl
 
-pub answer-promise : (s : Session) (object bytes cancelled left : List ℕ) (r : Answered) → Bytes bytes → given r ≡ answerOf s object bytes cancelled → left ≡ answerBuffer s object bytes
-    → AnswerPromise s object bytes cancelled left r
-answer-promise s object bytes cancelled left r b e w h es eo =
+pub answer-promise : (s : Session) (object bytes cancelled left : List ℕ) {k : ℕ} {x : Session} → Bytes bytes → (k, x) ≡ answerOf s object bytes cancelled → left ≡ answerBuffer s object bytes
+    → AnswerPromise s object bytes cancelled left k x
+answer-promise s object bytes cancelled left {k} {x} b e w h es eo =
     let t = finish h .session in
-    let g : given r ≡ answerOf t object bytes cancelled = e ∙ ap (λ (x : Session). answerOf x object bytes cancelled) es in
-    let n : replyNumber (r .reply) ≡ answerOf t object bytes cancelled .0 = ap (λ (x : ℕ × Session). x .0) g in
-    let buffer : cond (eqb (answerRefusal t (length object) (length bytes)) 0) (answerBuffer t object bytes) (finish h .object) ≡ cond (eqb (replyNumber (r .reply)) 0) left (finish h .object) =
+    let g : (k, x) ≡ answerOf t object bytes cancelled = e ∙ ap (λ (x : Session). answerOf x object bytes cancelled) es in
+    let n : k ≡ answerOf t object bytes cancelled .0 = ap (λ (x : ℕ × Session). x .0) g in
+    let buffer : cond (eqb (answerRefusal t (length object) (length bytes)) 0) (answerBuffer t object bytes) (finish h .object) ≡ cond (eqb k 0) left (finish h .object) =
     ap₂ (λ (k : ℕ) (l : List ℕ). cond (eqb k 0) l (finish h .object)) (sym (n ∙ answer-number-is t object bytes cancelled)) (ap (λ (x : Session). answerBuffer x object bytes) (sym es) ∙ sym w) in
     record {
       number = n ∙ number-next h (Call.answer object bytes cancelled);
       result = given-by n refl (w ∙ ap (λ (x : Session). answerBuffer x object bytes) es);
-      extended = extended h (Call.answer object bytes cancelled) (r .session) _ (λ z. eo (n ∙ z), b) (ap₂ (λ (x : ℕ × Session) (l : List ℕ). record { session = x .1; object = l }) (sym g) buffer);
+      extended = extended h (Call.answer object bytes cancelled) x _ (λ z. eo (n ∙ z), b) (ap₂ (λ (x : ℕ × Session) (l : List ℕ). record { session = x .1; object = l }) (sym g) buffer);
     }
 
 -- ---- verdict
 
-pub verdict-promise : (s : Session) (kind yesNo : ℕ) (fascn : List ℕ) (r : Answered) → given r ≡ verdictOf s kind yesNo fascn → VerdictPromise s kind yesNo fascn r
-verdict-promise s kind yesNo fascn r e h es =
-    let g : given r ≡ verdictOf (finish h .session) kind yesNo fascn = e ∙ ap (λ (x : Session). verdictOf x kind yesNo fascn) es in
+pub verdict-promise : (s : Session) (kind yesNo : ℕ) (fascn : List ℕ) {k : ℕ} {x : Session} → (k, x) ≡ verdictOf s kind yesNo fascn → VerdictPromise s kind yesNo fascn k x
+verdict-promise s kind yesNo fascn {k} {x} e h es =
+    let g : (k, x) ≡ verdictOf (finish h .session) kind yesNo fascn = e ∙ ap (λ (x : Session). verdictOf x kind yesNo fascn) es in
     record {
       number = ap (λ (x : ℕ × Session). x .0) g ∙ number-next h (Call.verdict kind yesNo fascn);
       result = given-by (ap (λ (x : ℕ × Session). x .0) g) refl refl;
-      extended = extended h (Call.verdict kind yesNo fascn) (r .session) (finish h .object) tt (ap (λ (x : ℕ × Session). record { session = x .1; object = finish h .object }) (sym g));
+      extended = extended h (Call.verdict kind yesNo fascn) x (finish h .object) tt (ap (λ (x : ℕ × Session). record { session = x .1; object = finish h .object }) (sym g));
     }
 
 -- ---- field
@@ -122,6 +122,11 @@ field-promise s object tag value e h es =
       result = given-by refl refl (e ∙ ap (λ (x : Session). fieldOf x object tag) es);
       extended = extended h (Call.field object tag) s (finish h .object) tt (ap (λ (x : Session). record { session = x; object = finish h .object }) (sym es));
     }
+
+-- the bytes at the place of a field, in any buffer of that size
+pub place-promise : (s : Session) (size tag : ℕ) {place : Part} → place ≡ fieldPlace s size tag → PlacePromise s size tag place
+place-promise s size tag e object k =
+    field-promise s object tag _ (ap (bytesAt object) (e ∙ ap (λ (n : ℕ). fieldPlace s n tag) (sym k)) ∙ place-value s object tag)
 
 -- ---- stamp
 
@@ -146,9 +151,9 @@ says h before left written =
 has-written : (k : ℕ) (x y : List ℕ) {n : ℕ} {left : List ℕ} → n ≡ k → left ≡ cond (eqb k 0) x y → n ≡ 0 → left ≡ x
 has-written k x y e w z = w ∙ ap (λ (t : Bool). cond t x y) (eq-eqb k 0 (sym e ∙ z))
 
-pub stamp-promise : (s : Session) (before left : List ℕ) (r : Answered) → given r ≡ stampAnswer s (length before) → left ≡ stampBuffer s before → StampPromise s before left r
-stamp-promise s before left r e b h es =
-    let g : given r ≡ stampAnswer (finish h .session) (length before) = e ∙ ap (λ (x : Session). stampAnswer x (length before)) es in
+pub stamp-promise : (s : Session) (before left : List ℕ) {k : ℕ} {x : Session} → (k, x) ≡ stampAnswer s (length before) → left ≡ stampBuffer s before → StampPromise s before left k x
+stamp-promise s before left {k} {x} e b h es =
+    let g : (k, x) ≡ stampAnswer (finish h .session) (length before) = e ∙ ap (λ (x : Session). stampAnswer x (length before)) es in
     let w : left ≡ stampBuffer (finish h .session) before = b ∙ ap (λ (x : Session). stampBuffer x before) es in
     let bytes = w ∙ promise h .stamp-bytes before in
     let number = ap (λ (x : ℕ × Session). x .0) g ∙ promise h .stamp-number before in
@@ -157,15 +162,15 @@ stamp-promise s before left r e b h es =
       bytes = bytes;
       says = λ z. says h before left (has-written (refusedBy (readingOf h) (Arguments.stamp (length before))) _ before number bytes z);
       result = given-by (ap (λ (x : ℕ × Session). x .0) g) refl w;
-      extended = extended h (Call.stamp before) (r .session) (finish h .object) tt (ap (λ (x : ℕ × Session). record { session = x .1; object = finish h .object }) (sym g));
+      extended = extended h (Call.stamp before) x (finish h .object) tt (ap (λ (x : ℕ × Session). record { session = x .1; object = finish h .object }) (sym g));
     }
 
 -- ---- preview
 
-pub preview-promise : (s : Session) (kind yesNo : ℕ) (fascn before left : List ℕ) (r : Reply) → (replyNumber r, left) ≡ previewOf s kind yesNo fascn before → PreviewPromise s kind yesNo fascn before left r
-preview-promise s kind yesNo fascn before left r e h es =
+pub preview-promise : (s : Session) (kind yesNo : ℕ) (fascn before left : List ℕ) {k : ℕ} → (k, left) ≡ previewOf s kind yesNo fascn before → PreviewPromise s kind yesNo fascn before left k
+preview-promise s kind yesNo fascn before left {k} e h es =
     let c = Call.verdict kind yesNo fascn in
-    let g : (replyNumber r, left) ≡ previewOf (finish h .session) kind yesNo fascn before = e ∙ ap (λ (x : Session). previewOf x kind yesNo fascn before) es in
+    let g : (k, left) ≡ previewOf (finish h .session) kind yesNo fascn before = e ∙ ap (λ (x : Session). previewOf x kind yesNo fascn before) es in
     let n = ap (λ (x : ℕ × List ℕ). x .0) g in
     let w = ap (λ (x : ℕ × List ℕ). x .1) g in
     let bytes = w ∙ promise h .preview-bytes kind yesNo fascn before in
@@ -180,27 +185,27 @@ preview-promise s kind yesNo fascn before left r e h es =
 
 -- ---- the clauses of each contract together
 
-pub open-both : (mode date : ℕ) (aid : List ℕ) (r : Answered) → given r ≡ openOf mode date aid → (given r ≡ openOf mode date aid) × OpenPromise mode date aid r
-open-both mode date aid r e = (e, open-promise mode date aid r e)
+pub open-both : (mode date : ℕ) (aid : List ℕ) {k : ℕ} {x : Session} → (k, x) ≡ openOf mode date aid → ((k, x) ≡ openOf mode date aid) × OpenPromise mode date aid k x
+open-both mode date aid e = (e, open-promise mode date aid e)
 
-pub command-all : (s : Session) (before left : List ℕ) (r : Commanded) → (commandGiven r ≡ commandOf s (length before)) × (left ≡ commandBuffer s before)
-    → (commandGiven r ≡ commandOf s (length before)) × ((left ≡ commandBuffer s before) × CommandPromise s before left r)
-command-all s before left r e = (e .0, (e .1, command-promise s before left r (e .0) (e .1)))
+pub command-all : (s : Session) (before left : List ℕ) {k m : ℕ} {x : Session} → ((k, m, x) ≡ commandOf s (length before)) × (left ≡ commandBuffer s before)
+    → ((k, m, x) ≡ commandOf s (length before)) × ((left ≡ commandBuffer s before) × CommandPromise s before left k m x)
+command-all s before left e = (e .0, (e .1, command-promise s before left (e .0) (e .1)))
 
-pub answer-all : (s : Session) (object bytes cancelled left : List ℕ) (r : Answered) → Bytes bytes → (given r ≡ answerOf s object bytes cancelled) × (left ≡ answerBuffer s object bytes)
-    → (given r ≡ answerOf s object bytes cancelled) × ((left ≡ answerBuffer s object bytes) × AnswerPromise s object bytes cancelled left r)
-answer-all s object bytes cancelled left r b e = (e .0, (e .1, answer-promise s object bytes cancelled left r b (e .0) (e .1)))
+pub answer-all : (s : Session) (object bytes cancelled left : List ℕ) {k : ℕ} {x : Session} → Bytes bytes → ((k, x) ≡ answerOf s object bytes cancelled) × (left ≡ answerBuffer s object bytes)
+    → ((k, x) ≡ answerOf s object bytes cancelled) × ((left ≡ answerBuffer s object bytes) × AnswerPromise s object bytes cancelled left k x)
+answer-all s object bytes cancelled left b e = (e .0, (e .1, answer-promise s object bytes cancelled left b (e .0) (e .1)))
 
-pub verdict-both : (s : Session) (kind yesNo : ℕ) (fascn : List ℕ) (r : Answered) → given r ≡ verdictOf s kind yesNo fascn → (given r ≡ verdictOf s kind yesNo fascn) × VerdictPromise s kind yesNo fascn r
-verdict-both s kind yesNo fascn r e = (e, verdict-promise s kind yesNo fascn r e)
+pub verdict-both : (s : Session) (kind yesNo : ℕ) (fascn : List ℕ) {k : ℕ} {x : Session} → (k, x) ≡ verdictOf s kind yesNo fascn → ((k, x) ≡ verdictOf s kind yesNo fascn) × VerdictPromise s kind yesNo fascn k x
+verdict-both s kind yesNo fascn e = (e, verdict-promise s kind yesNo fascn e)
 
 pub field-both : (s : Session) (object : List ℕ) (tag : ℕ) (value : List ℕ) → value ≡ fieldOf s object tag → (value ≡ fieldOf s object tag) × FieldPromise s object tag value
 field-both s object tag value e = (e, field-promise s object tag value e)
 
-pub stamp-all : (s : Session) (before left : List ℕ) (r : Answered) → given r ≡ stampAnswer s (length before) → left ≡ stampBuffer s before
-    → (given r ≡ stampAnswer s (length before)) × ((left ≡ stampBuffer s before) × StampPromise s before left r)
-stamp-all s before left r e b = (e, (b, stamp-promise s before left r e b))
+pub stamp-all : (s : Session) (before left : List ℕ) {k : ℕ} {x : Session} → (k, x) ≡ stampAnswer s (length before) → left ≡ stampBuffer s before
+    → ((k, x) ≡ stampAnswer s (length before)) × ((left ≡ stampBuffer s before) × StampPromise s before left k x)
+stamp-all s before left e b = (e, (b, stamp-promise s before left e b))
 
-pub preview-all : (s : Session) (kind yesNo : ℕ) (fascn before left : List ℕ) (r : Reply) → (replyNumber r ≡ previewRefusal s kind yesNo fascn (length before)) × ((replyNumber r, left) ≡ previewOf s kind yesNo fascn before)
-    → ((replyNumber r, left) ≡ previewOf s kind yesNo fascn before) × ((replyNumber r ≡ previewRefusal s kind yesNo fascn (length before)) × PreviewPromise s kind yesNo fascn before left r)
-preview-all s kind yesNo fascn before left r e = (e .1, (e .0, preview-promise s kind yesNo fascn before left r (e .1)))
+pub preview-all : (s : Session) (kind yesNo : ℕ) (fascn before left : List ℕ) {k : ℕ} → (k ≡ previewRefusal s kind yesNo fascn (length before)) × ((k, left) ≡ previewOf s kind yesNo fascn before)
+    → ((k, left) ≡ previewOf s kind yesNo fascn before) × ((k ≡ previewRefusal s kind yesNo fascn (length before)) × PreviewPromise s kind yesNo fascn before left k)
+preview-all s kind yesNo fascn before left e = (e .1, (e .0, preview-promise s kind yesNo fascn before left (e .1)))

@@ -246,6 +246,13 @@ verdictOf s kind yesNo fascn =
 abbrev pub partFor : Session → ℕ → ℕ → Part
 partFor s step tag = cond (eqb step 2) (s .card .step2) (partIn (rowsOf (kindAt (s .opening .mode) 1)) (s .card .step1) tag)
 
+-- Where the value lies in an object buffer of so many bytes, or the empty part. Its bytes are `fieldOf` (`place-value`, proofs/CallLaws.antt).
+unfoldable pub fieldPlace : Session → ℕ → ℕ → Part
+fieldPlace s size tag =
+    let step = stepOfTag tag in
+    let part = partFor s step tag in
+    cond (outOfRange s || fieldRefused since (s .opening .mode) (s .progress .step) size tag) empty (record { start = baseOf step + part .start; len = part .len })
+
 -- The value as a part of the object buffer, or the empty part.
 unfoldable pub fieldOf : Session → List ℕ → ℕ → List ℕ
 fieldOf s object tag =

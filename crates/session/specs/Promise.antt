@@ -12,15 +12,14 @@ use lib.ListN.{length, getD, take}
 use Rattle.common.specs.Lists.{overFront}
 use Rattle.card.specs.Date.{realDate}
 use Rattle.card.specs.Command.{aidRefused}
+use Rattle.card.specs.Object.{bytesAt}
+use Rattle.card.specs.declared.object.Part.{Part}
 use Rattle.session.specs.Tables.{Figures, since, modeInRange, standsGranted, answersMost, stampSize}
 use Rattle.session.specs.Ranges.{inRange}
-use Rattle.session.specs.Operation.{replyNumber, opened, commandOf, commandBuffer, answerRefusal, answerOf, answerBuffer, verdictOf, fieldOf, stampAnswer, stampBuffer, previewOf}
+use Rattle.session.specs.Operation.{opened, commandOf, commandBuffer, answerRefusal, answerOf, answerBuffer, verdictOf, fieldOf, stampAnswer, stampBuffer, previewOf}
 use Rattle.session.specs.Reading.{Opening, Arguments, Reading, begins, nextCommand, hasNumber, refusedBy, reading, refusals, fieldIn, fieldFor, answersIn, answers}
 use Rattle.session.specs.Finding.{finding, standing, stampOf, Granted}
 use Rattle.session.specs.declared.state.Session.{Session}
-use Rattle.session.specs.declared.state.Reply.{Reply}
-use Rattle.session.specs.declared.state.Answered.{Answered}
-use Rattle.session.specs.declared.state.Commanded.{Commanded}
 
 -- ---- calls, and a host that makes them
 
@@ -241,7 +240,7 @@ pub record Promise (h : History) : Type 0 where
   -- i: taking any of the list's previews out alters nothing else
   pub previews-out : (ms : List Marked) → allCalls ms ≡ h .calls → PreviewsOut h ms
 
--- ---- the promise as the contracts carry it: for every history that reaches the session of the call
+-- ---- the promise as the contracts carry it: for every history that reaches the session of the call; n is the number that the call gives, and `session` what it hands back
 
 -- The session and the buffer that a call leaves are those of the history with that call at its end.
 pub record ExtendedBy (h : History) (c : Call) (session : Session) (object : List ℕ) : Type 0 where
@@ -259,37 +258,37 @@ pub record OpenedBy (o : Opening) (session : Session) (object : List ℕ) : Type
   pub calls : history .calls ≡ []
   pub host : finish history ≡ record { session = session; object = object }
 
-abbrev pub OpenPromise : ℕ → ℕ → List ℕ → Answered → Type 0
-OpenPromise mode date aid r =
-    replyNumber (r .reply) ≡ 0 → (object : List ℕ) → OpenedBy (record { mode = mode; date = date; aid = aid }) (r .session) object
+abbrev pub OpenPromise : ℕ → ℕ → List ℕ → ℕ → Session → Type 0
+OpenPromise mode date aid n session = n ≡ 0 → (object : List ℕ) → OpenedBy (record { mode = mode; date = date; aid = aid }) session object
 
-pub record CommandPromised (h : History) (before left : List ℕ) (r : Commanded) : Type 0 where
-  pub number : replyNumber (r .reply) ≡ refusedBy (readingOf h) (Arguments.command (length before))
-  pub count : r .count ≡ countFor (readingOf h) (length before)
+-- The count that a command call gives is m.
+pub record CommandPromised (h : History) (before left : List ℕ) (n m : ℕ) (session : Session) : Type 0 where
+  pub number : n ≡ refusedBy (readingOf h) (Arguments.command (length before))
+  pub count : m ≡ countFor (readingOf h) (length before)
   pub bytes : left ≡ commandFor (readingOf h) before
-  pub result : resultOf (finish h) (Call.command before) ≡ record { number = replyNumber (r .reply); count = r .count; bytes = left }
-  pub extended : ExtendedBy h (Call.command before) (r .session) (finish h .object)
+  pub result : resultOf (finish h) (Call.command before) ≡ record { number = n; count = m; bytes = left }
+  pub extended : ExtendedBy h (Call.command before) session (finish h .object)
 
-abbrev pub CommandPromise : Session → List ℕ → List ℕ → Commanded → Type 0
-CommandPromise s before left r = (h : History) → s ≡ finish h .session → CommandPromised h before left r
+abbrev pub CommandPromise : Session → List ℕ → List ℕ → ℕ → ℕ → Session → Type 0
+CommandPromise s before left n m session = (h : History) → s ≡ finish h .session → CommandPromised h before left n m session
 
 -- The host's buffer is then what an accepted answer left in it; one that is refused may have been lent another, and leaves the host's as it was.
-pub record AnswerPromised (h : History) (object bytes cancelled left : List ℕ) (r : Answered) : Type 0 where
-  pub number : replyNumber (r .reply) ≡ refusedBy (readingOf h) (Arguments.answer (length object) bytes cancelled)
-  pub result : resultOf (finish h) (Call.answer object bytes cancelled) ≡ record { number = replyNumber (r .reply); count = 0; bytes = left }
-  pub extended : ExtendedBy h (Call.answer object bytes cancelled) (r .session) (cond (eqb (replyNumber (r .reply)) 0) left (finish h .object))
+pub record AnswerPromised (h : History) (object bytes cancelled left : List ℕ) (n : ℕ) (session : Session) : Type 0 where
+  pub number : n ≡ refusedBy (readingOf h) (Arguments.answer (length object) bytes cancelled)
+  pub result : resultOf (finish h) (Call.answer object bytes cancelled) ≡ record { number = n; count = 0; bytes = left }
+  pub extended : ExtendedBy h (Call.answer object bytes cancelled) session (cond (eqb n 0) left (finish h .object))
 
-abbrev pub AnswerPromise : Session → List ℕ → List ℕ → List ℕ → List ℕ → Answered → Type 0
-AnswerPromise s object bytes cancelled left r =
-    (h : History) → s ≡ finish h .session → (replyNumber (r .reply) ≡ 0 → object ≡ finish h .object) → AnswerPromised h object bytes cancelled left r
+abbrev pub AnswerPromise : Session → List ℕ → List ℕ → List ℕ → List ℕ → ℕ → Session → Type 0
+AnswerPromise s object bytes cancelled left n session =
+    (h : History) → s ≡ finish h .session → (n ≡ 0 → object ≡ finish h .object) → AnswerPromised h object bytes cancelled left n session
 
-pub record VerdictPromised (h : History) (kind yesNo : ℕ) (fascn : List ℕ) (r : Answered) : Type 0 where
-  pub number : replyNumber (r .reply) ≡ refusedBy (readingOf h) (Arguments.verdict kind yesNo fascn)
-  pub result : resultOf (finish h) (Call.verdict kind yesNo fascn) ≡ record { number = replyNumber (r .reply); count = 0; bytes = [] }
-  pub extended : ExtendedBy h (Call.verdict kind yesNo fascn) (r .session) (finish h .object)
+pub record VerdictPromised (h : History) (kind yesNo : ℕ) (fascn : List ℕ) (n : ℕ) (session : Session) : Type 0 where
+  pub number : n ≡ refusedBy (readingOf h) (Arguments.verdict kind yesNo fascn)
+  pub result : resultOf (finish h) (Call.verdict kind yesNo fascn) ≡ record { number = n; count = 0; bytes = [] }
+  pub extended : ExtendedBy h (Call.verdict kind yesNo fascn) session (finish h .object)
 
-abbrev pub VerdictPromise : Session → ℕ → ℕ → List ℕ → Answered → Type 0
-VerdictPromise s kind yesNo fascn r = (h : History) → s ≡ finish h .session → VerdictPromised h kind yesNo fascn r
+abbrev pub VerdictPromise : Session → ℕ → ℕ → List ℕ → ℕ → Session → Type 0
+VerdictPromise s kind yesNo fascn n session = (h : History) → s ≡ finish h .session → VerdictPromised h kind yesNo fascn n session
 
 -- Lent the host's buffer, it gives the field's value; a field that the reading has not is the empty part of whatever buffer was lent, and so is every field of a buffer of
 -- another size. The host's buffer stays.
@@ -302,29 +301,33 @@ pub record FieldPromised (h : History) (s : Session) (object : List ℕ) (tag : 
 abbrev pub FieldPromise : Session → List ℕ → ℕ → List ℕ → Type 0
 FieldPromise s object tag part = (h : History) → s ≡ finish h .session → FieldPromised h s object tag part
 
+-- Of the place of a field, the same is said of the bytes that stand there in any buffer of that size.
+abbrev pub PlacePromise : Session → ℕ → ℕ → Part → Type 0
+PlacePromise s size tag place = (object : List ℕ) → length object ≡ size → FieldPromise s object tag (bytesAt object place)
+
 -- What the first 46 bytes of a buffer say that are the stamp of a reading: the second is granted exactly where the calls say so, and all are the stamp of any other history
 -- exactly where the two findings are the same.
 pub record StampSays (r : Reading) (left : List ℕ) : Type 0 where
   pub granted : (getD left 1 0 ≡ standsGranted) ↔ Granted r
   pub apart : (u : History) → (take (stampSize since) left ≡ stampOf (finding (readingOf u))) ↔ (finding r ≡ finding (readingOf u))
 
-pub record StampPromised (h : History) (before left : List ℕ) (r : Answered) : Type 0 where
-  pub number : replyNumber (r .reply) ≡ refusedBy (readingOf h) (Arguments.stamp (length before))
+pub record StampPromised (h : History) (before left : List ℕ) (n : ℕ) (session : Session) : Type 0 where
+  pub number : n ≡ refusedBy (readingOf h) (Arguments.stamp (length before))
   pub bytes : left ≡ stampFor (readingOf h) before
-  pub says : replyNumber (r .reply) ≡ 0 → StampSays (readingOf h) left
-  pub result : resultOf (finish h) (Call.stamp before) ≡ record { number = replyNumber (r .reply); count = 0; bytes = left }
-  pub extended : ExtendedBy h (Call.stamp before) (r .session) (finish h .object)
+  pub says : n ≡ 0 → StampSays (readingOf h) left
+  pub result : resultOf (finish h) (Call.stamp before) ≡ record { number = n; count = 0; bytes = left }
+  pub extended : ExtendedBy h (Call.stamp before) session (finish h .object)
 
-abbrev pub StampPromise : Session → List ℕ → List ℕ → Answered → Type 0
-StampPromise s before left r = (h : History) → s ≡ finish h .session → StampPromised h before left r
+abbrev pub StampPromise : Session → List ℕ → List ℕ → ℕ → Session → Type 0
+StampPromise s before left n session = (h : History) → s ≡ finish h .session → StampPromised h before left n session
 
 -- What a preview writes says of the list with that verdict call at its end, which is a history too, what a stamp says of its list. The session stays.
-pub record PreviewPromised (h : History) (s : Session) (kind yesNo : ℕ) (fascn before left : List ℕ) (r : Reply) : Type 0 where
-  pub number : replyNumber r ≡ refusedBy (readingOf h) (Arguments.preview kind yesNo fascn (length before))
+pub record PreviewPromised (h : History) (s : Session) (kind yesNo : ℕ) (fascn before left : List ℕ) (n : ℕ) : Type 0 where
+  pub number : n ≡ refusedBy (readingOf h) (Arguments.preview kind yesNo fascn (length before))
   pub bytes : left ≡ previewFor h kind yesNo fascn before
-  pub says : replyNumber r ≡ 0 → StampSays (readingWith h (Call.verdict kind yesNo fascn)) left
-  pub result : resultOf (finish h) (Call.preview kind yesNo fascn before) ≡ record { number = replyNumber r; count = 0; bytes = left }
+  pub says : n ≡ 0 → StampSays (readingWith h (Call.verdict kind yesNo fascn)) left
+  pub result : resultOf (finish h) (Call.preview kind yesNo fascn before) ≡ record { number = n; count = 0; bytes = left }
   pub extended : ExtendedBy h (Call.preview kind yesNo fascn before) s (finish h .object)
 
-abbrev pub PreviewPromise : Session → ℕ → ℕ → List ℕ → List ℕ → List ℕ → Reply → Type 0
-PreviewPromise s kind yesNo fascn before left r = (h : History) → s ≡ finish h .session → PreviewPromised h s kind yesNo fascn before left r
+abbrev pub PreviewPromise : Session → ℕ → ℕ → List ℕ → List ℕ → List ℕ → ℕ → Type 0
+PreviewPromise s kind yesNo fascn before left n = (h : History) → s ≡ finish h .session → PreviewPromised h s kind yesNo fascn before left n

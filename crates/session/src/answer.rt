@@ -170,7 +170,7 @@ impl Session {
     pub fn answer(self, object: &mut [u8], answer: &[u8], cancelled: &[u64]) -> Answered
         ensures { λ r. ⌜ given r ≡ answerOf self (now (object .entry)) (now (answer .entry)) (now (cancelled .entry)) ⌝ }
         ensures { λ r. ⌜ now (object .exit) ≡ answerBuffer self (now (object .entry)) (now (answer .entry)) ⌝ }
-        ensures for_every_list { λ r. ⌜ AnswerPromise self (now (object .entry)) (now (answer .entry)) (now (cancelled .entry)) (now (object .exit)) r ⌝ }
+        ensures for_every_list { λ r. ⌜ AnswerPromise self (now (object .entry)) (now (answer .entry)) (now (cancelled .entry)) (now (object .exit)) (replyNumber (r .reply)) (r .session) ⌝ }
     {
         let reply = self.answer_refusal(object.len(), answer.len());
         if reply.number() == 0 {

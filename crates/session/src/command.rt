@@ -15,7 +15,7 @@ ghost use lib.ListN.{length};
 ghost use Rattle.card.specs.Command as card-command;
 ghost use Rattle.session.specs.Condition.{nothingToSend};
 ghost use Rattle.session.specs.Ranges.{inRange};
-ghost use Rattle.session.specs.Operation.{commandGiven, initialIn, commandIn, progressSending, withSessionProgress, commandOf, commandBuffer};
+ghost use Rattle.session.specs.Operation.{replyNumber, commandGiven, initialIn, commandIn, progressSending, withSessionProgress, commandOf, commandBuffer};
 ghost use Rattle.session.specs.Promise.{CommandPromise};
 
 impl Session {
@@ -88,7 +88,7 @@ impl Session {
     pub fn command(self, out: &mut [u8]) -> Commanded
         ensures { λ r. ⌜ commandGiven r ≡ commandOf self (length (now (out .entry))) ⌝ }
         ensures { λ r. ⌜ now (out .exit) ≡ commandBuffer self (now (out .entry)) ⌝ }
-        ensures for_every_list { λ r. ⌜ CommandPromise self (now (out .entry)) (now (out .exit)) r ⌝ }
+        ensures for_every_list { λ r. ⌜ CommandPromise self (now (out .entry)) (now (out .exit)) (replyNumber (r .reply)) (r .count) (r .session) ⌝ }
     {
         if self.values().out_of_range() {
             return Commanded {

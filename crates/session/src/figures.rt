@@ -48,10 +48,10 @@ pub(crate) const STEP_2_BASE: usize = USUAL_CAPACITY;
 // The two status bytes that end an answer, and the most bytes of an answer: `statusSize`, `answerMost`.
 pub(crate) const STATUS: usize = 2;
 
-pub(crate) const ANSWER_MOST: usize = 258;
+pub const ANSWER_MOST: usize = 258;
 
 // The bytes of a number in the stamp, and of the stamp's head, that is mode, standing, cause, status word and step: `numberSize`, `headSize`.
-pub(crate) const NUMBER_BYTES: usize = 4;
+pub const NUMBER_BYTES: usize = 4;
 
 pub(crate) const HEAD: usize = 6;
 

@@ -92,7 +92,7 @@ fn opened(mode: u8, date: u32, aid: &[u8]) -> Session
 // A session freshly opened; the dead session where the opening is refused.
 pub fn open(mode: u8, date: u32, aid: &[u8]) -> Answered
     ensures { λ r. ⌜ given r ≡ openOf mode date (now (aid .entry)) ⌝ }
-    ensures for_every_list { λ r. ⌜ OpenPromise mode date (now (aid .entry)) r ⌝ }
+    ensures for_every_list { λ r. ⌜ OpenPromise mode date (now (aid .entry)) (replyNumber (r .reply)) (r .session) ⌝ }
 {
     let reply = open_refusal(mode, date, aid);
     if reply.number() == 0 {

@@ -12,7 +12,7 @@ impl Session {
     pub fn preview(self, kind: u8, yes: u8, fascn: &[u8], out: &mut [u8]) -> Reply
         ensures as_two_calls { λ r. ⌜ (replyNumber r, now (out .exit)) ≡ previewOf self kind yes (now (fascn .entry)) (now (out .entry)) ⌝ }
         ensures in_order { λ r. ⌜ replyNumber r ≡ previewRefusal self kind yes (now (fascn .entry)) (length (now (out .entry))) ⌝ }
-        ensures for_every_list { λ r. ⌜ PreviewPromise self kind yes (now (fascn .entry)) (now (out .entry)) (now (out .exit)) r ⌝ }
+        ensures for_every_list { λ r. ⌜ PreviewPromise self kind yes (now (fascn .entry)) (now (out .entry)) (now (out .exit)) (replyNumber r) ⌝ }
     {
         let verdict = self.verdict_refusal(kind, yes, fascn);
         if verdict.number() != 0 {

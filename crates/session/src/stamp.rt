@@ -4,7 +4,6 @@ use crate::figures::DATE_AT;
 use crate::figures::EXPIRY_AT;
 use crate::figures::FASCN_AT;
 use crate::figures::HEAD;
-use crate::figures::NUMBER_BYTES;
 use crate::figures::OUTCOMES_AT;
 use crate::figures::STAMP;
 use crate::figures::STATUS_CAUSE;
@@ -18,22 +17,10 @@ ghost use Prim.Native.Nat.{_≤_};
 ghost use lib.ListN.{length};
 ghost use Rattle.common.specs.Lists.{overFront};
 ghost use Rattle.common.specs.Refusal.{refusalOf};
-ghost use Rattle.session.specs.Tables.{since, statusShown, fourBytes, stampSize};
+ghost use Rattle.session.specs.Tables.{since, statusShown, stampSize};
 ghost use Rattle.session.specs.Condition.{stampConditions};
 ghost use Rattle.session.specs.Operation.{replyNumber, given, stampRefusal, stampHead, stampIn, stampAnswer, stampBuffer};
 ghost use Rattle.session.specs.Promise.{StampPromise};
-
-// A number of four bytes, high byte first.
-fn four_bytes(n: u32) -> [u8; NUMBER_BYTES]
-    ensures { λ r. ⌜ r ≡ fourBytes n ⌝ }
-{
-    [
-        (n / 16777216 % 256) as u8,
-        (n / 65536 % 256) as u8,
-        (n / 256 % 256) as u8,
-        (n % 256) as u8,
-    ]
-}
 
 // A byte of the status word, 00 unless the cause is 16.
 fn status_shown(cause: u8, sw: u8) -> u8
@@ -85,8 +72,8 @@ impl Session {
         let card = self.card;
         let outcomes = self.outcomes;
         let fascn = card.fascn;
-        let date = four_bytes(opening.date);
-        let expiry = four_bytes(card.expiry);
+        let date = arrays::four_bytes(opening.date);
+        let expiry = arrays::four_bytes(card.expiry);
         arrays::sized_outcomes(outcomes);
         arrays::sized_fascn(fascn);
         slice::store(out, 0, &head);
@@ -100,7 +87,7 @@ impl Session {
     pub fn stamp(self, out: &mut [u8]) -> Answered
         ensures { λ r. ⌜ given r ≡ stampAnswer self (length (now (out .entry))) ⌝ }
         ensures { λ r. ⌜ now (out .exit) ≡ stampBuffer self (now (out .entry)) ⌝ }
-        ensures for_every_list { λ r. ⌜ StampPromise self (now (out .entry)) (now (out .exit)) r ⌝ }
+        ensures for_every_list { λ r. ⌜ StampPromise self (now (out .entry)) (now (out .exit)) (replyNumber (r .reply)) (r .session) ⌝ }
     {
         let reply = self.stamp_refusal(out.len());
         if reply.number() == 0 {

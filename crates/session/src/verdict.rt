@@ -77,7 +77,7 @@ impl Session {
     // The host's verdict: kind 1 to 5, no (0) or yes (1), and the 25 bytes of the FASC-N that it is on.
     pub fn verdict(self, kind: u8, yes: u8, fascn: &[u8]) -> Answered
         ensures { λ r. ⌜ given r ≡ verdictOf self kind yes (now (fascn .entry)) ⌝ }
-        ensures for_every_list { λ r. ⌜ VerdictPromise self kind yes (now (fascn .entry)) r ⌝ }
+        ensures for_every_list { λ r. ⌜ VerdictPromise self kind yes (now (fascn .entry)) (replyNumber (r .reply)) (r .session) ⌝ }
     {
         let reply = self.verdict_refusal(kind, yes, fascn);
         if reply.number() == 0 {

@@ -13,9 +13,9 @@ use Rattle.common.proofs.ListsLaws.{drop-most}
 use Rattle.session.specs.Operation.{answerRefusal, answerBuffer}
 use Rattle.session.specs.Promise.{Host}
 use Rattle.session.specs.declared.state.Session.{Session}
-use Rattle.vectors.specs.Append.{Added}
+use Rattle.append.specs.Append.{Added}
+use Rattle.append.proofs.AppendLaws.{same-text, AddedSoFar, adding-none, adding-more}
 use Rattle.vectors.specs.CallsText.{callHeadSize, argumentCount, laterCalls, firstText, afterFirst, callsLeft, hostAt}
-use Rattle.vectors.proofs.AppendLaws.{same-text, AddedSoFar, adding-none, adding-more}
 
 -- ---- hosts
 

@@ -5,7 +5,7 @@ use mathlib.Core.List.{List, [], _∷_}
 use Prim.Native.Nat.{ℕ}
 use Rattle.common.specs.Lists.{sameBytes}
 use Rattle.card.specs.declared.object.Kind.the-variants as kinds
-use Rattle.vectors.specs.Append.{noVector}
+use Rattle.vectors.specs.RefusalText.{noVector}
 use Rattle.vectors.specs.FascnText.{unpackText, packText}
 use Rattle.vectors.specs.ObjectText.{headerText, templateText, objectText, dateText, realText}
 use Rattle.vectors.specs.CommandText.{selectText, selectAgainText, getDataText, getResponseText, statusText}

@@ -11,7 +11,7 @@ use Rattle.session.specs.Tables.{objectSize}
 use Rattle.session.specs.Operation.{dead, openOf, verdictOf, previewOf}
 use Rattle.session.specs.declared.state.Session.{Session}
 use Rattle.session.specs.Promise.{Call, Host, callNumber, countOf, bytesOf, hostAfter}
-use Rattle.vectors.specs.Append.{textsOf, numberText}
+use Rattle.append.specs.Append.{textsOf, numberText}
 use Rattle.vectors.specs.declared.answer.calls.DirectCall.{DirectCall}
 use Rattle.vectors.specs.declared.answer.calls.DirectCall.the-variants.{Open, Command, Answer, Verdict, Preview, Stamp, Field, None}
 

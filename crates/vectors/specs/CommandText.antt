@@ -10,7 +10,8 @@ use Rattle.card.specs.declared.object.Kind.{Kind}
 use Rattle.card.specs.declared.command.Status.{Status}
 use Rattle.card.specs.declared.command.Status.the-variants.{Done, More, Again, Other}
 use Rattle.text.specs.Hex.{hexOf}
-use Rattle.vectors.specs.Append.{numberText, refusalText, noVector}
+use Rattle.append.specs.Append.{numberText}
+use Rattle.vectors.specs.RefusalText.{refusalText, noVector}
 
 -- ---- commands
 

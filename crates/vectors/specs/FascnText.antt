@@ -8,7 +8,8 @@ use lib.ListN.{length, getD, replicate}
 use Rattle.common.specs.Lists.{listOf}
 use Rattle.card.specs.Fascn.{fascnDigits, checkPlace, bitAt, unpackOf, packOf, keyOf}
 use Rattle.text.specs.Hex.{hexOf}
-use Rattle.vectors.specs.Append.{textsOf, numberText, refusalText, noVector}
+use Rattle.append.specs.Append.{textsOf, numberText}
+use Rattle.vectors.specs.RefusalText.{refusalText, noVector}
 
 -- ---- unpack
 

@@ -1,5 +1,5 @@
 -- What the contracts of this crate mean.
--- Append: text written into a lent buffer after what stands there, texts one after another, and numbers as text
+-- RefusalText: the texts of the answers that more than one call gives
 -- FascnText, ObjectText, CommandText: the texts of the answers, by crate card's definitions
 -- VisualText: the text of the look-up of a typed number, by crate ccl's definitions
 -- MergeText: the text of the merge of two lists of keys, by crate ccl's definitions
@@ -7,7 +7,7 @@
 -- Answer: the calls by name, and the text of each one's answer
 -- Line: the parts of a line of the input, and the text that it gives
 -- Input: the bytes of the input cut into lines, and all that is printed
-pub mod Append
+pub mod RefusalText
 pub mod FascnText
 pub mod ObjectText
 pub mod CommandText

@@ -7,7 +7,7 @@ use lib.Dec.{leb}
 use lib.ListN.{length, take, drop}
 use Rattle.text.specs.Hex.{isHex, bytesIn}
 use Rattle.bytes.specs.Bytes.{indexOf}
-use Rattle.vectors.specs.Append.{noVector}
+use Rattle.vectors.specs.RefusalText.{noVector}
 use Rattle.vectors.specs.Answer.{callNamed, answerText}
 
 -- What follows the first `: `, the word in front of that, and what follows the word and a space.

@@ -7,7 +7,8 @@ use lib.Dec.{eqb, leb}
 use lib.ListN.{length, getD, take, drop}
 use Rattle.common.specs.Lists.{listOf, number}
 use Rattle.ccl.specs.Merge.{mergeOf, mergedAfter}
-use Rattle.vectors.specs.Append.{textsOf, numberText, refusalText, noVector}
+use Rattle.append.specs.Append.{textsOf, numberText}
+use Rattle.vectors.specs.RefusalText.{refusalText, noVector}
 
 -- ---- the bytes of a line
 

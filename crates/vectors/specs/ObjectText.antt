@@ -15,7 +15,8 @@ use Rattle.card.specs.declared.tlv.Header.the-variants.{Whole, Malformed}
 use Rattle.card.specs.declared.object.Kind.{Kind}
 use Rattle.card.specs.declared.object.Part.{Part}
 use Rattle.text.specs.Hex.{hexOf}
-use Rattle.vectors.specs.Append.{textsOf, numberText, causeText, noVector}
+use Rattle.append.specs.Append.{textsOf, numberText}
+use Rattle.vectors.specs.RefusalText.{causeText, noVector}
 
 -- ---- TLVs
 

@@ -7,7 +7,8 @@ use lib.Dec.{eqb}
 use lib.ListN.{take, drop}
 use Rattle.bytes.specs.Bytes.{indexOf}
 use Rattle.ccl.specs.Visual.{malformedVisual, typedOf}
-use Rattle.vectors.specs.Append.{numberText, refusalText}
+use Rattle.append.specs.Append.{numberText}
+use Rattle.vectors.specs.RefusalText.{refusalText}
 
 -- `yes`, `no`, and `refused 24 line N`
 abbrev pub yesWord : List ℕ

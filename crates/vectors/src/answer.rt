@@ -9,14 +9,14 @@ mod merge;
 mod object;
 mod visual;
 
-use crate::append;
+use crate::refusal;
 use card::command::FIRST_LE;
 use card::object::Kind;
 use common::slice;
 ghost use mathlib.Core.Path.{_≡_};
 ghost use mathlib.Core.Bool.{cond};
 ghost use Rattle.common.specs.Lists.{sameBytes};
-ghost use Rattle.vectors.specs.Append.{Added};
+ghost use Rattle.append.specs.Append.{Added};
 ghost use Rattle.vectors.specs.Answer.{callNamed, answerText};
 
 // A call. A number is the room of the buffer that a command is lent.
@@ -93,7 +93,7 @@ pub(crate) fn answer(out: &mut [u8], at: usize, call: VectorCall, s: &[u8]) -> u
     ensures { λ r. ⌜ Added (now (out .entry)) at (now (out .exit)) r (answerText call (now (s .entry))) ⌝ }
 {
     match call {
-        VectorCall::Unknown => append::add_no_vector(out, at),
+        VectorCall::Unknown => refusal::add_no_vector(out, at),
         VectorCall::Unpack => fascn::add_unpack(out, at, s),
         VectorCall::Pack => fascn::add_pack(out, at, s),
         VectorCall::Header => object::add_header(out, at, s),

@@ -1,5 +1,4 @@
 // The input in blocks: the text of a block's lines, the bytes of a line that is not whole yet, and the text of a last line.
-use crate::append;
 use crate::line;
 use common::slice;
 ghost use mathlib.Core.Path.{_≡_};
@@ -7,7 +6,7 @@ ghost use mathlib.Core.List.{[]};
 ghost use Prim.Native.Nat.{_-_, _≤_};
 ghost use lib.ListN.{length, take, drop};
 ghost use Rattle.common.specs.Lists.{overFront};
-ghost use Rattle.vectors.specs.Append.{Added};
+ghost use Rattle.append.specs.Append.{Added};
 ghost use Rattle.vectors.specs.Input.{linesText, restOf, lastLineText, moved};
 
 // How many bytes of text stand in the buffer, and how many bytes of the block are used: the rest is no whole line.

@@ -1,12 +1,12 @@
 // The parts of a line `PLACE: CALL HEX`, and the text that it gives.
 use crate::answer;
-use crate::append;
+use crate::refusal;
 use common::slice;
 use text::hex;
 ghost use Prim.Native.Nat.{_*_, _≤_};
 ghost use lib.ListN.{length};
 ghost use Rattle.text.specs.Hex.{bytesIn};
-ghost use Rattle.vectors.specs.Append.{Added};
+ghost use Rattle.append.specs.Append.{Added};
 ghost use Rattle.vectors.specs.Answer.{callNamed, answerText};
 ghost use Rattle.vectors.specs.Line.{mostBytes, callText, answerOfLine, lineText};
 
@@ -31,7 +31,7 @@ fn add_call(out: &mut [u8], at: usize, name: &[u8], digits: &[u8]) -> usize
     if hex::is_hex(digits) & (digits.len() <= 2 * BYTES) {
         return add_spelled(out, at, name, digits);
     }
-    append::add_no_vector(out, at)
+    refusal::add_no_vector(out, at)
 }
 
 // The answer of a line.

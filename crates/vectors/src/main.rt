@@ -7,9 +7,9 @@
 // The functions of this file read and write; what they hand on to be written is made by proved functions. What is read goes by blocks, and a line that does not
 // fit a block, a text that does not fit its buffer, or a read or a write that fails ends the program with a line on standard error.
 mod answer;
-mod append;
 mod input;
 mod line;
+mod refusal;
 
 use common::slice;
 ghost use mathlib.Core.Path.{_≡_};

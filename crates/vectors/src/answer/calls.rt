@@ -1,5 +1,4 @@
 // A list of direct calls on a session, as a line spells them, and the text of what each call gives.
-use crate::append;
 use common::number;
 use common::slice;
 use session::figures::OBJECT;
@@ -10,7 +9,7 @@ ghost use mathlib.Core.List.{[]};
 ghost use Prim.Native.Nat.{_≤_};
 ghost use lib.ListN.{length, getD};
 ghost use Rattle.session.specs.Operation.{commandOf, commandBuffer, answerOf, answerBuffer, fieldOf, stampRefusal, stampBuffer};
-ghost use Rattle.vectors.specs.Append.{Added};
+ghost use Rattle.append.specs.Append.{Added};
 ghost use Rattle.vectors.specs.CallsText.{directCall, argumentCount, dateIn, openBy, verdictBy, previewBy, roomIn, openWord, answerWord, verdictWord, previewWord, stampWord, numberedText, bufferText, countedText, fieldText, directText, afterCall, bufferAfter, firstText, afterFirst, hostAt, callTexts, callsText};
 
 // The bytes before the arguments of a call; `callHeadSize` in the definitions.

@@ -1,5 +1,5 @@
 // The texts of what the writers of commands and the reader of status words say.
-use crate::append;
+use crate::refusal;
 use card::command;
 use card::command::CommandAnswer;
 use card::command::Status;
@@ -10,7 +10,7 @@ ghost use mathlib.Core.Path.{_≡_};
 ghost use mathlib.Core.List.{[], _∷_, _++_};
 ghost use Rattle.card.specs.Command.{commandAnswer, selectOf, getDataOf, getResponseOf};
 ghost use Rattle.text.specs.Hex.{hexOf};
-ghost use Rattle.vectors.specs.Append.{Added};
+ghost use Rattle.append.specs.Append.{Added};
 ghost use Rattle.vectors.specs.CommandText.{writtenText, unwrittenText, commandText, selectText, selectAgainText, getDataText, getResponseText, statusText};
 
 // The most bytes of a buffer that a command is lent; `spareSize` in the definitions.
@@ -31,7 +31,7 @@ fn add_written(out: &mut [u8], at: usize, n: usize, buffer: &[u8]) -> usize
 fn add_unwritten(out: &mut [u8], at: usize, n: u8, buffer: &[u8]) -> usize
     ensures { λ r. ⌜ Added (now (out .entry)) at (now (out .exit)) r (unwrittenText n (now (buffer .entry))) ⌝ }
 {
-    let refused = append::add_refused(out, at, n);
+    let refused = refusal::add_refused(out, at, n);
     let head = append::add(out, refused, b", the buffer ");
     append::add_hex(out, head, buffer)
 }
@@ -95,7 +95,7 @@ pub(crate) fn add_get_data(out: &mut [u8], at: usize, kind: Kind, room: usize, s
     ensures { λ r. ⌜ Added (now (out .entry)) at (now (out .exit)) r (getDataText kind room (now (s .entry))) ⌝ }
 {
     if 1 < s.len() {
-        return append::add_no_vector(out, at);
+        return refusal::add_no_vector(out, at);
     }
     let last = slice::byte(s, 0);
     let mut spare = [0xFFu8; SPARE];
@@ -108,7 +108,7 @@ pub(crate) fn add_get_response(out: &mut [u8], at: usize, room: usize, s: &[u8])
     ensures { λ r. ⌜ Added (now (out .entry)) at (now (out .exit)) r (getResponseText room (now (s .entry))) ⌝ }
 {
     if s.len() != 1 {
-        return append::add_no_vector(out, at);
+        return refusal::add_no_vector(out, at);
     }
     let mut spare = [0xFFu8; SPARE];
     let n = number::least(SPARE, room);

@@ -1,5 +1,5 @@
 // The texts of what unpack and pack say, and of the characters of document 003's figure 7.
-use crate::append;
+use crate::refusal;
 use card::fascn;
 use card::fascn::counts;
 ghost use mathlib.Core.Path.{_≡_};
@@ -7,7 +7,7 @@ ghost use mathlib.Core.List.{[]};
 ghost use Prim.Native.Nat.{_+_, _*_, _<_};
 ghost use lib.ListN.{length};
 ghost use Rattle.card.specs.Fascn.{fascnBytes, fascnCharacters, fascnDigits, bitAt};
-ghost use Rattle.vectors.specs.Append.{Added};
+ghost use Rattle.append.specs.Append.{Added};
 ghost use Rattle.vectors.specs.FascnText.{opensField, digitText, spacedDigits, characterText, againText, unpackedText, unpackText, packText, codeText, digitCodes, codesText};
 
 // Digit k of 32 is the first of a field, and not of the first field.
@@ -94,7 +94,7 @@ pub(crate) fn add_unpack(out: &mut [u8], at: usize, s: &[u8]) -> usize
     let answer = u.answer;
     let number = answer.number();
     if number != 0 {
-        return append::add_refused(out, at, number);
+        return refusal::add_refused(out, at, number);
     }
     let d = u.digits;
     add_unpacked(out, at, d)
@@ -117,13 +117,13 @@ pub(crate) fn add_pack(out: &mut [u8], at: usize, s: &[u8]) -> usize
     ensures { λ r. ⌜ Added (now (out .entry)) at (now (out .exit)) r (packText (now (s .entry))) ⌝ }
 {
     if s.len() != counts::DIGITS {
-        return append::add_no_vector(out, at);
+        return refusal::add_no_vector(out, at);
     }
     let p = fascn::pack(digits_in(s));
     let answer = p.answer;
     let number = answer.number();
     if number != 0 {
-        return append::add_refused(out, at, number);
+        return refusal::add_refused(out, at, number);
     }
     let packed = p.bytes;
     let head = append::add(out, at, b"packed ");

@@ -1,5 +1,5 @@
 // The text of what the merge of two lists of keys says.
-use crate::append;
+use crate::refusal;
 use ccl::merge;
 use ccl::merge::ListMerged;
 use common::slice;
@@ -8,7 +8,7 @@ ghost use mathlib.Core.List.{_∷_};
 ghost use Prim.Native.Nat.{_≤_};
 ghost use lib.ListN.{length};
 ghost use Rattle.ccl.specs.Merge.{mergeAnswer};
-ghost use Rattle.vectors.specs.Append.{Added, numberText};
+ghost use Rattle.append.specs.Append.{Added, numberText};
 ghost use Rattle.vectors.specs.MergeText.{mostKeys, keyIn, keysIn, isMerge, placesText, countText, mergedText, listsText, mergeText};
 
 // The bytes of a key; `keySize` in the definitions.
@@ -89,7 +89,7 @@ fn add_count(out: &mut [u8], at: usize, answer: ListMerged) -> usize
 {
     let number = answer.number();
     if number != 0 {
-        return append::add_refused(out, at, number);
+        return refusal::add_refused(out, at, number);
     }
     let count = append::add_decimal(out, at, count_of(answer) as u64);
     append::add(out, count, b" keys")
@@ -121,7 +121,7 @@ pub(crate) fn add_merge(out: &mut [u8], at: usize, s: &[u8]) -> usize
     ensures { λ r. ⌜ Added (now (out .entry)) at (now (out .exit)) r (mergeText (now (s .entry))) ⌝ }
 {
     if !is_merge(s) {
-        return append::add_no_vector(out, at);
+        return refusal::add_no_vector(out, at);
     }
     let n = slice::byte(s, 0) as usize;
     let m = slice::byte(s, 1) as usize;

@@ -1,5 +1,5 @@
 // The texts of what the readers of TLVs, templates, data objects and dates say.
-use crate::append;
+use crate::refusal;
 use card::date;
 use card::date::Date;
 use card::object;
@@ -14,7 +14,7 @@ ghost use lib.ListN.{length};
 ghost use Rattle.common.specs.Lists.{all};
 ghost use Rattle.card.specs.Tlv.{tagBytes};
 ghost use Rattle.text.specs.Hex.{hexOf};
-ghost use Rattle.vectors.specs.Append.{Added};
+ghost use Rattle.append.specs.Append.{Added};
 ghost use Rattle.vectors.specs.ObjectText.{placeText, nestedText, textOfHeader, headerText, templateText, partText, commaBefore, fieldText, shownText, shownTags, objectText, dateText, decimalPair, twoDigits, eightDigits, textOfReal, realText};
 
 // The bytes of a tag, high byte first, as many as it needs.
@@ -89,7 +89,7 @@ pub(crate) fn add_template(out: &mut [u8], at: usize, s: &[u8]) -> usize
     let answer = template::template(s);
     let number = answer.number();
     if number != 0 {
-        return append::add_cause(out, at, number);
+        return refusal::add_cause(out, at, number);
     }
     append::add(out, at, b"good")
 }
@@ -182,7 +182,7 @@ pub(crate) fn add_object(out: &mut [u8], at: usize, kind: Kind, s: &[u8]) -> usi
     let answer = o.answer;
     let number = answer.number();
     if number != 0 {
-        return append::add_cause(out, at, number);
+        return refusal::add_cause(out, at, number);
     }
     let parts = o.parts;
     add_shown(out, at, kind, parts)
@@ -194,7 +194,7 @@ pub(crate) fn add_date(out: &mut [u8], at: usize, s: &[u8]) -> usize
 {
     match date::read(s) {
         Date::Real(n) => append::add_decimal(out, at, n as u64),
-        Date::Unreal => append::add_cause(out, at, date::ILL_FORMED_DATE),
+        Date::Unreal => refusal::add_cause(out, at, date::ILL_FORMED_DATE),
     }
 }
 
@@ -243,5 +243,5 @@ pub(crate) fn add_real(out: &mut [u8], at: usize, s: &[u8]) -> usize
     if (s.len() == 4) & all_decimal(s) {
         return add_real_or_not(out, at, date::real(eight_digits(s)));
     }
-    append::add_no_vector(out, at)
+    refusal::add_no_vector(out, at)
 }

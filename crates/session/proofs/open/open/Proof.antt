@@ -15,14 +15,14 @@ unfolding openOf
 returns c =
     let test = c .before in
     let refusal = test .before .before in
-    open-both _ _ _ (record { session = c .opened .result; reply = refusal .open-refusal .result }) (accepts dead (refusal .open-refusal .ensures) (sym (test .before .number .ensures) ∙ test .if1 .taken) (c .opened .ensures))
+    open-both _ _ _ (accepts dead (refusal .open-refusal .ensures) (sym (test .before .number .ensures) ∙ test .if1 .taken) (c .opened .ensures))
 
 returns-2 : tie.Need-returns-2
 unfolding openOf
 returns-2 c =
     let test = c .before in
     let refusal = test .before .before in
-    open-both _ _ _ (record { session = c .dead-session .result; reply = refusal .open-refusal .result }) (refuses (opened _ _ _) (refusal .open-refusal .ensures) (λ e. test .if1 .left (test .before .number .ensures ∙ e)) (c .dead-session .ensures))
+    open-both _ _ _ (refuses (opened _ _ _) (refusal .open-refusal .ensures) (λ e. test .if1 .left (test .before .number .ensures ∙ e)) (c .dead-session .ensures))
 
 pub open-spec : {M : Type 1} → statement M
 open-spec =

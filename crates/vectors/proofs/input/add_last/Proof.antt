@@ -1,8 +1,8 @@
 -- `vectors::input::add_last` meets its contract: one text or none. Assumes nothing.
 use borrow.Author.Needs.{needs}
 use borrow.Author.Tests.{eq-eqb, ne-eqb}
+use Rattle.append.proofs.AppendLaws.{when, unless}
 use Rattle.vectors.specs.Input.{lastLineText}
-use Rattle.vectors.proofs.AppendLaws.{when, unless}
 use Rattle.vectors.proofs.input.add_last.Statement.{statement}
 use Rattle.vectors.proofs.input.add_last.Tie as tie
 

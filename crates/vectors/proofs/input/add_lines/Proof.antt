@@ -6,10 +6,10 @@ use native.Mathlib.Omega.{arith}
 use borrow.Author.Needs.{needs}
 use lib.ListN.{length, take, drop}
 use Rattle.bytes.specs.Bytes.{indexOf}
-use Rattle.vectors.specs.Append.{Added}
+use Rattle.append.specs.Append.{Added}
+use Rattle.append.proofs.AppendLaws.{_then_, same-text, stays}
 use Rattle.vectors.specs.Input.{linesText, restOf}
 use Rattle.vectors.proofs.InputLaws.{lines-more, lines-all}
-use Rattle.vectors.proofs.AppendLaws.{_then_, same-text, stays}
 use Rattle.vectors.proofs.input.add_lines.Statement.{statement}
 use Rattle.vectors.proofs.input.add_lines.Tie as tie
 

@@ -6,9 +6,9 @@ use borrow.Author.Needs.{needs}
 use lib.Dec.{leb}
 use lib.ListN.{length}
 use Rattle.text.specs.Hex.{isHex}
+use Rattle.append.proofs.AppendLaws.{when, unless}
 use Rattle.vectors.specs.Line.{callText}
 use Rattle.common.proofs.TestLaws.{and-right}
-use Rattle.vectors.proofs.AppendLaws.{when, unless}
 use Rattle.vectors.proofs.line.add_call.Statement.{statement}
 use Rattle.vectors.proofs.line.add_call.Tie as tie
 

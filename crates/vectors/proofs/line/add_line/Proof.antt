@@ -1,7 +1,7 @@
 -- `vectors::line::add_line` meets its contract: four texts. Assumes nothing.
 use borrow.Author.Needs.{needs}
+use Rattle.append.proofs.AppendLaws.{_then_}
 use Rattle.vectors.specs.Line.{lineText}
-use Rattle.vectors.proofs.AppendLaws.{_then_}
 use Rattle.vectors.proofs.line.add_line.Statement.{statement}
 use Rattle.vectors.proofs.line.add_line.Tie as tie
 

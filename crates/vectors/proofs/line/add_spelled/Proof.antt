@@ -8,8 +8,8 @@ use lib.ListN.{length, take}
 use Rattle.common.specs.Lists.{written}
 use Rattle.text.specs.Hex.{bytesIn, byteAt}
 use Rattle.text.proofs.HexLaws.{front-bytes}
+use Rattle.append.proofs.AppendLaws.{same-text}
 use Rattle.vectors.specs.Answer.{answerText}
-use Rattle.vectors.proofs.AppendLaws.{same-text}
 use Rattle.vectors.proofs.line.add_spelled.Statement.{statement}
 use Rattle.vectors.proofs.line.add_spelled.Tie as tie
 

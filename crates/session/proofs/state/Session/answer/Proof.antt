@@ -48,10 +48,10 @@ returns c =
     let at = c .before .before .before .before .before .before in
     let a = at .before .before .before .before .before .before .args in
     let e = c .before .before .take-answer .ensures in
-    answer-all _ _ _ _ _ _ (bytes at) (answer-taken (a .self) (a .object .now) (a .answer .now) (a .cancelled .now) (at .before .before .answer-refusal .ensures) (accepted-is at) (rw (← status-part at) (e .0)) (rw (← status-part at) (e .1)))
+    answer-all _ _ _ _ _ (bytes at) (answer-taken (a .self) (a .object .now) (a .answer .now) (a .cancelled .now) (at .before .before .answer-refusal .ensures) (accepted-is at) (rw (← status-part at) (e .0)) (rw (← status-part at) (e .1)))
 
 returns-2 : tie.Need-returns-2
-returns-2 c = answer-all _ _ _ _ _ _ (λ i. omega (arith, c .before .before .before .before .shared-slice-known .given i)) (answer-refused _ _ _ _ (c .before .before .answer-refusal .ensures) (λ z. c .if1 .left (c .before .number .ensures ∙ z)))
+returns-2 c = answer-all _ _ _ _ _ (λ i. omega (arith, c .before .before .before .before .shared-slice-known .given i)) (answer-refused _ _ _ _ (c .before .before .answer-refusal .ensures) (λ z. c .if1 .left (c .before .number .ensures ∙ z)))
 
 pub answer-spec : {M : Type 1} → statement M
 answer-spec =

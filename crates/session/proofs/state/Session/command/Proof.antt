@@ -11,14 +11,14 @@ use Rattle.session.proofs.state.Session.command.Statement.{statement}
 use Rattle.session.proofs.state.Session.command.Tie as tie
 
 returns : tie.Need-returns
-returns c = command-all _ _ _ _ (command-out-of-range _ _ (sym (values-test _ (c .before .before .values .ensures) (c .before .out-of-range .ensures)) ∙ c .if1 .taken))
+returns c = command-all _ _ _ (command-out-of-range _ _ (sym (values-test _ (c .before .before .values .ensures) (c .before .out-of-range .ensures)) ∙ c .if1 .taken))
 
 -- past the first test the session is in range
 in-range : (c : tie.Else1) → outOfRange (c .before .before .before .before .args .self) ≡ false
 in-range c = sym (values-test _ (c .before .before .values .ensures) (c .before .out-of-range .ensures)) ∙ c .if1 .left
 
 returns-2 : tie.Need-returns-2
-returns-2 c = command-all _ _ _ _ (command-none _ _ (in-range (c .before .before)) (sym (c .before .nothing-to-send .ensures) ∙ c .if2 .taken))
+returns-2 c = command-all _ _ _ (command-none _ _ (in-range (c .before .before)) (sym (c .before .nothing-to-send .ensures) ∙ c .if2 .taken))
 
 write-command-requires : tie.Need-write-command-requires
 write-command-requires c κs = not-false _ (in-range (c .before .before .before))
@@ -30,7 +30,7 @@ returns-3 c =
     let tested = asked .before .before in
     let a = tested .before .before .before .before .args in
     let next = sym (asked .before .nothing-to-send .ensures) ∙ asked .if2 .left in
-    command-all _ _ _ _ (command-made (a .self) (a .out .now) _ (w .result) (in-range tested) next (w .ensures) (c .sent-by .ensures))
+    command-all _ _ _ (command-made (a .self) (a .out .now) _ (w .result) (in-range tested) next (w .ensures) (c .sent-by .ensures))
 
 pub command-spec : {M : Type 1} → statement M
 command-spec =

@@ -16,14 +16,14 @@ returns c =
     let test = c .before .before .before .before in
     let refusal = test .before .before in
     let a = refusal .before .before .args in
-    stamp-all _ _ _ _ (rw (refusal .stamp-refusal .ensures)) (stamp-accepted (a .self) (a .out .now) (refusal .stamp-refusal .ensures) (sym (test .before .number .ensures) ∙ test .if1 .taken) (c .before .before .write-stamp .ensures))
+    stamp-all _ _ _ (rw (refusal .stamp-refusal .ensures)) (stamp-accepted (a .self) (a .out .now) (refusal .stamp-refusal .ensures) (sym (test .before .number .ensures) ∙ test .if1 .taken) (c .before .before .write-stamp .ensures))
 
 returns-2 : tie.Need-returns-2
 unfolding stampAnswer
 returns-2 c =
     let refusal = c .before .before in
     let a = refusal .before .before .args in
-    stamp-all _ _ _ _ (rw (refusal .stamp-refusal .ensures)) (stamp-refused (a .self) (a .out .now) (refusal .stamp-refusal .ensures) (λ e. c .if1 .left (c .before .number .ensures ∙ e)))
+    stamp-all _ _ _ (rw (refusal .stamp-refusal .ensures)) (stamp-refused (a .self) (a .out .now) (refusal .stamp-refusal .ensures) (λ e. c .if1 .left (c .before .number .ensures ∙ e)))
 
 pub stamp-spec : {M : Type 1} → statement M
 stamp-spec =

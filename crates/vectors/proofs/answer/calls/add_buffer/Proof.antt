@@ -1,7 +1,7 @@
 -- `vectors::answer::calls::add_buffer` meets its contract: five texts. Assumes nothing.
 use borrow.Author.Needs.{needs}
+use Rattle.append.proofs.AppendLaws.{_then_}
 use Rattle.vectors.specs.CallsText.{bufferText}
-use Rattle.vectors.proofs.AppendLaws.{_then_}
 use Rattle.vectors.proofs.answer.calls.add_buffer.Statement.{statement}
 use Rattle.vectors.proofs.answer.calls.add_buffer.Tie as tie
 

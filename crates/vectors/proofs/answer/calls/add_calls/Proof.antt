@@ -4,8 +4,8 @@ use borrow.Author.Needs.{needs}
 use lib.ListN.{replicate}
 use Rattle.session.specs.Tables.{objectSize}
 use Rattle.session.specs.declared.state.Session.{Session}
+use Rattle.append.proofs.AppendLaws.{same-text}
 use Rattle.vectors.specs.CallsText.{callTexts, callsText}
-use Rattle.vectors.proofs.AppendLaws.{same-text}
 use Rattle.vectors.proofs.CallsLaws.{host}
 use Rattle.vectors.proofs.answer.calls.add_calls.Statement.{statement}
 use Rattle.vectors.proofs.answer.calls.add_calls.Tie as tie

@@ -1,7 +1,7 @@
 -- `vectors::answer::calls::add_counted` meets its contract: seven texts. Assumes nothing.
 use borrow.Author.Needs.{needs}
+use Rattle.append.proofs.AppendLaws.{_then_}
 use Rattle.vectors.specs.CallsText.{countedText}
-use Rattle.vectors.proofs.AppendLaws.{_then_}
 use Rattle.vectors.proofs.answer.calls.add_counted.Statement.{statement}
 use Rattle.vectors.proofs.answer.calls.add_counted.Tie as tie
 

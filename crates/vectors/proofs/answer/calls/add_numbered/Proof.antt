@@ -1,7 +1,7 @@
 -- `vectors::answer::calls::add_numbered` meets its contract: three texts. Assumes nothing.
 use borrow.Author.Needs.{needs}
+use Rattle.append.proofs.AppendLaws.{_then_}
 use Rattle.vectors.specs.CallsText.{numberedText}
-use Rattle.vectors.proofs.AppendLaws.{_then_}
 use Rattle.vectors.proofs.answer.calls.add_numbered.Statement.{statement}
 use Rattle.vectors.proofs.answer.calls.add_numbered.Tie as tie
 

@@ -4,8 +4,8 @@ use Prim.Native.Nat.{_+_, _-_, _≤_}
 use native.Mathlib.Omega.{arith}
 use borrow.Author.Needs.{needs}
 use lib.ListN.{length, length-drop}
+use Rattle.append.proofs.AppendLaws.{adding-end}
 use Rattle.vectors.specs.CallsText.{callTexts, hostAt}
-use Rattle.vectors.proofs.AppendLaws.{adding-end}
 use Rattle.vectors.proofs.CallsLaws.{host, CallsSoFar, no-call, one-call, all-calls}
 use Rattle.vectors.proofs.answer.calls.run_calls.Statement.{statement}
 use Rattle.vectors.proofs.answer.calls.run_calls.Tie as tie

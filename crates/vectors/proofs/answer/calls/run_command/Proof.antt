@@ -4,8 +4,8 @@ use mathlib.Core.List.{List}
 use Prim.Native.Nat.{ℕ}
 use borrow.Author.Needs.{needs}
 use Rattle.session.specs.declared.state.Session.{Session}
+use Rattle.append.proofs.AppendLaws.{same-text}
 use Rattle.vectors.specs.CallsText.{countedText}
-use Rattle.vectors.proofs.AppendLaws.{same-text}
 use Rattle.vectors.proofs.answer.calls.run_command.Statement.{statement}
 use Rattle.vectors.proofs.answer.calls.run_command.Tie as tie
 

@@ -1,8 +1,8 @@
 -- `vectors::answer::calls::run_field` meets its contract: the bytes of the part. Assumes nothing.
 use mathlib.Core.Path.{ap}
 use borrow.Author.Needs.{needs}
+use Rattle.append.proofs.AppendLaws.{same-text}
 use Rattle.vectors.specs.CallsText.{fieldText}
-use Rattle.vectors.proofs.AppendLaws.{same-text}
 use Rattle.vectors.proofs.answer.calls.run_field.Statement.{statement}
 use Rattle.vectors.proofs.answer.calls.run_field.Tie as tie
 

@@ -10,9 +10,9 @@ use lib.ListN.{take, drop, replicate}
 use lib.Seq.{length-take-le}
 use Rattle.common.proofs.ListsLaws.{take-most}
 use Rattle.session.specs.Promise.{Host}
+use Rattle.append.proofs.AppendLaws.{same-text, when, unless}
 use Rattle.vectors.specs.CallsText.{directCall, callHeadSize, mostRoom, lentFor, directText, afterCall, firstText, afterFirst}
 use Rattle.vectors.specs.declared.answer.calls.DirectCall.{DirectCall}
-use Rattle.vectors.proofs.AppendLaws.{same-text, when, unless}
 use Rattle.vectors.proofs.answer.calls.run_first.Statement.{statement}
 use Rattle.vectors.proofs.answer.calls.run_first.Tie as tie
 

@@ -4,8 +4,8 @@ use Prim.Native.Nat.{ℕ}
 use borrow.Author.Needs.{needs}
 use Rattle.session.specs.Operation.{given}
 use Rattle.session.specs.declared.state.Session.{Session}
+use Rattle.append.proofs.AppendLaws.{same-text}
 use Rattle.vectors.specs.CallsText.{verdictBy, verdictWord, numberedText}
-use Rattle.vectors.proofs.AppendLaws.{same-text}
 use Rattle.vectors.proofs.answer.calls.run_verdict.Statement.{statement}
 use Rattle.vectors.proofs.answer.calls.run_verdict.Tie as tie
 

@@ -8,9 +8,9 @@ use borrow.Author.Needs.{needs}
 use lib.ListN.{getD, replicate}
 use lib.Seq.{length-take-le}
 use Rattle.card.specs.Command.{getResponseOf}
+use Rattle.append.proofs.AppendLaws.{same-text, when, unless}
 use Rattle.vectors.specs.CommandText.{commandText, spare, getResponseText}
 use Rattle.common.proofs.ListsLaws.{take-most}
-use Rattle.vectors.proofs.AppendLaws.{same-text, when, unless}
 use Rattle.vectors.proofs.answer.command.add_get_response.Statement.{statement}
 use Rattle.vectors.proofs.answer.command.add_get_response.Tie as tie
 

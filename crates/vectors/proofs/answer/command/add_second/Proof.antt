@@ -1,6 +1,6 @@
 -- `vectors::answer::command::add_second` meets its contract: two texts. Assumes nothing.
 use borrow.Author.Needs.{needs}
-use Rattle.vectors.proofs.AppendLaws.{_then_}
+use Rattle.append.proofs.AppendLaws.{_then_}
 use Rattle.vectors.proofs.answer.command.add_second.Statement.{statement}
 use Rattle.vectors.proofs.answer.command.add_second.Tie as tie
 

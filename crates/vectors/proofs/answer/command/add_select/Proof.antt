@@ -7,9 +7,9 @@ use borrow.Author.Needs.{needs}
 use lib.ListN.{replicate}
 use lib.Seq.{length-take-le}
 use Rattle.card.specs.Command.{selectOf}
+use Rattle.append.proofs.AppendLaws.{same-text}
 use Rattle.vectors.specs.CommandText.{commandText, spare, selectText}
 use Rattle.common.proofs.ListsLaws.{take-most}
-use Rattle.vectors.proofs.AppendLaws.{same-text}
 use Rattle.vectors.proofs.answer.command.add_select.Statement.{statement}
 use Rattle.vectors.proofs.answer.command.add_select.Tie as tie
 

@@ -1,7 +1,7 @@
 -- `vectors::answer::command::add_unwritten` meets its contract: three texts. Assumes nothing.
 use borrow.Author.Needs.{needs}
+use Rattle.append.proofs.AppendLaws.{_then_}
 use Rattle.vectors.specs.CommandText.{unwrittenText}
-use Rattle.vectors.proofs.AppendLaws.{_then_}
 use Rattle.vectors.proofs.answer.command.add_unwritten.Statement.{statement}
 use Rattle.vectors.proofs.answer.command.add_unwritten.Tie as tie
 

@@ -1,7 +1,7 @@
 -- `vectors::answer::command::add_written` meets its contract: five texts. Assumes nothing.
 use borrow.Author.Needs.{needs}
+use Rattle.append.proofs.AppendLaws.{_then_}
 use Rattle.vectors.specs.CommandText.{writtenText}
-use Rattle.vectors.proofs.AppendLaws.{_then_}
 use Rattle.vectors.proofs.answer.command.add_written.Statement.{statement}
 use Rattle.vectors.proofs.answer.command.add_written.Tie as tie
 

@@ -1,7 +1,7 @@
 -- `vectors::answer::fascn::add_again` meets its contract: two texts. Assumes nothing.
 use borrow.Author.Needs.{needs}
+use Rattle.append.proofs.AppendLaws.{_then_}
 use Rattle.vectors.specs.FascnText.{againText}
-use Rattle.vectors.proofs.AppendLaws.{_then_}
 use Rattle.vectors.proofs.answer.fascn.add_again.Statement.{statement}
 use Rattle.vectors.proofs.answer.fascn.add_again.Tie as tie
 

@@ -2,8 +2,8 @@
 use native.Mathlib.Nat.{add-zero}
 use borrow.Author.Needs.{needs}
 use Rattle.common.specs.Lists.{listOf}
+use Rattle.append.proofs.AppendLaws.{same-text}
 use Rattle.vectors.specs.FascnText.{characterText}
-use Rattle.vectors.proofs.AppendLaws.{same-text}
 use Rattle.vectors.proofs.answer.fascn.add_character.Statement.{statement}
 use Rattle.vectors.proofs.answer.fascn.add_character.Tie as tie
 

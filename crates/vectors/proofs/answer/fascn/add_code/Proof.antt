@@ -3,8 +3,8 @@ use mathlib.Core.Path.{ap}
 use mathlib.Core.List.{List}
 use Prim.Native.Nat.{ℕ}
 use borrow.Author.Needs.{needs}
+use Rattle.append.proofs.AppendLaws.{_then_}
 use Rattle.vectors.specs.FascnText.{codeText}
-use Rattle.vectors.proofs.AppendLaws.{_then_}
 use Rattle.vectors.proofs.answer.fascn.add_code.Statement.{statement}
 use Rattle.vectors.proofs.answer.fascn.add_code.Tie as tie
 

@@ -1,7 +1,7 @@
 -- `vectors::answer::fascn::add_codes` meets its contract: four texts. Assumes nothing.
 use borrow.Author.Needs.{needs}
+use Rattle.append.proofs.AppendLaws.{_then_}
 use Rattle.vectors.specs.FascnText.{codesText}
-use Rattle.vectors.proofs.AppendLaws.{_then_}
 use Rattle.vectors.proofs.answer.fascn.add_codes.Statement.{statement}
 use Rattle.vectors.proofs.answer.fascn.add_codes.Tie as tie
 

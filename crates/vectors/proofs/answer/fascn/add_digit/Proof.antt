@@ -1,8 +1,8 @@
 -- `vectors::answer::fascn::add_digit` meets its contract: one text or the other. Assumes nothing.
 use mathlib.Core.Path.{sym, _∙_}
 use borrow.Author.Needs.{needs}
+use Rattle.append.proofs.AppendLaws.{when, unless}
 use Rattle.vectors.specs.FascnText.{digitText}
-use Rattle.vectors.proofs.AppendLaws.{when, unless}
 use Rattle.vectors.proofs.answer.fascn.add_digit.Statement.{statement}
 use Rattle.vectors.proofs.answer.fascn.add_digit.Tie as tie
 

@@ -2,8 +2,8 @@
 use mathlib.Core.List.{[], _∷_}
 use Prim.Native.Nat.{_+_, _-_}
 use borrow.Author.Needs.{needs}
+use Rattle.append.proofs.AppendLaws.{AddedSoFar, adding-none, adding-more, adding-end}
 use Rattle.vectors.specs.FascnText.{codeText}
-use Rattle.vectors.proofs.AppendLaws.{AddedSoFar, adding-none, adding-more, adding-end}
 use Rattle.vectors.proofs.answer.fascn.add_digit_codes.Statement.{statement}
 use Rattle.vectors.proofs.answer.fascn.add_digit_codes.Tie as tie
 

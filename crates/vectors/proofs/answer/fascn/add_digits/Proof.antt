@@ -2,8 +2,8 @@
 use Prim.Native.Nat.{_-_}
 use borrow.Author.Needs.{needs}
 use lib.ListN.{getD}
+use Rattle.append.proofs.AppendLaws.{AddedSoFar, adding-none, adding-more, adding-end}
 use Rattle.vectors.specs.FascnText.{digitText}
-use Rattle.vectors.proofs.AppendLaws.{AddedSoFar, adding-none, adding-more, adding-end}
 use Rattle.vectors.proofs.answer.fascn.add_digits.Statement.{statement}
 use Rattle.vectors.proofs.answer.fascn.add_digits.Tie as tie
 

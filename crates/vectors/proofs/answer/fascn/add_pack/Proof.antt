@@ -4,8 +4,8 @@ use borrow.Author.Needs.{needs}
 use borrow.Author.Tests.{eq-eqb, ne-eqb}
 use Rattle.common.specs.Lists.{number}
 use Rattle.card.specs.Fascn.{packOf}
+use Rattle.append.proofs.AppendLaws.{_then_, when, unless}
 use Rattle.vectors.specs.FascnText.{packText}
-use Rattle.vectors.proofs.AppendLaws.{_then_, when, unless}
 use Rattle.vectors.proofs.answer.fascn.add_pack.Statement.{statement}
 use Rattle.vectors.proofs.answer.fascn.add_pack.Tie as tie
 

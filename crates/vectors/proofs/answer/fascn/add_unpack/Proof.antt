@@ -2,8 +2,8 @@
 use borrow.Author.Needs.{needs}
 use borrow.Author.Tests.{eq-eqb, ne-eqb}
 use Rattle.common.specs.Lists.{number}
+use Rattle.append.proofs.AppendLaws.{when, unless}
 use Rattle.vectors.specs.FascnText.{unpackText}
-use Rattle.vectors.proofs.AppendLaws.{when, unless}
 use Rattle.vectors.proofs.answer.fascn.add_unpack.Statement.{statement}
 use Rattle.vectors.proofs.answer.fascn.add_unpack.Tie as tie
 

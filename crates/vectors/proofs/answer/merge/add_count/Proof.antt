@@ -1,8 +1,8 @@
 -- `vectors::answer::merge::add_count` meets its contract: the count, or the number of a refusal. Assumes nothing.
 use borrow.Author.Needs.{needs}
 use borrow.Author.Tests.{eq-eqb, ne-eqb}
+use Rattle.append.proofs.AppendLaws.{_then_, when, unless}
 use Rattle.vectors.specs.MergeText.{countText}
-use Rattle.vectors.proofs.AppendLaws.{_then_, when, unless}
 use Rattle.vectors.proofs.answer.merge.add_count.Statement.{statement}
 use Rattle.vectors.proofs.answer.merge.add_count.Tie as tie
 

@@ -1,6 +1,6 @@
 -- `vectors::answer::merge::add_key` meets its contract: two texts. Assumes nothing.
 use borrow.Author.Needs.{needs}
-use Rattle.vectors.proofs.AppendLaws.{_then_}
+use Rattle.append.proofs.AppendLaws.{_then_}
 use Rattle.vectors.proofs.answer.merge.add_key.Statement.{statement}
 use Rattle.vectors.proofs.answer.merge.add_key.Tie as tie
 

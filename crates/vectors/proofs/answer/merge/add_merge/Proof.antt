@@ -9,8 +9,8 @@ use borrow.Author.Tests.{leb-true, not-true, not-false}
 use lib.Dec.{eqb}
 use lib.ListN.{length}
 use Rattle.common.proofs.TestLaws.{and-parts}
+use Rattle.append.proofs.AppendLaws.{when, unless}
 use Rattle.vectors.specs.MergeText.{firstCount, secondCount, isMerge, mergeText}
-use Rattle.vectors.proofs.AppendLaws.{when, unless}
 use Rattle.vectors.proofs.answer.merge.add_merge.Statement.{statement}
 use Rattle.vectors.proofs.answer.merge.add_merge.Tie as tie
 

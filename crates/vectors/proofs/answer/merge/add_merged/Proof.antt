@@ -1,7 +1,7 @@
 -- `vectors::answer::merge::add_merged` meets its contract: three texts. Assumes nothing.
 use borrow.Author.Needs.{needs}
+use Rattle.append.proofs.AppendLaws.{_then_}
 use Rattle.vectors.specs.MergeText.{mergedText}
-use Rattle.vectors.proofs.AppendLaws.{_then_}
 use Rattle.vectors.proofs.answer.merge.add_merged.Statement.{statement}
 use Rattle.vectors.proofs.answer.merge.add_merged.Tie as tie
 

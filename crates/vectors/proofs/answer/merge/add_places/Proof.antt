@@ -4,8 +4,8 @@ use mathlib.Core.List.{_∷_}
 use Prim.Native.Nat.{_-_}
 use borrow.Author.Needs.{needs}
 use lib.ListN.{length, getD}
-use Rattle.vectors.specs.Append.{numberText}
-use Rattle.vectors.proofs.AppendLaws.{AddedSoFar, adding-none, adding-more, adding-end}
+use Rattle.append.specs.Append.{numberText}
+use Rattle.append.proofs.AppendLaws.{AddedSoFar, adding-none, adding-more, adding-end}
 use Rattle.vectors.proofs.answer.merge.add_places.Statement.{statement}
 use Rattle.vectors.proofs.answer.merge.add_places.Tie as tie
 

@@ -1,8 +1,8 @@
 -- `vectors::answer::object::add_comma` meets its contract: one text or the other. Assumes nothing.
 use borrow.Author.Needs.{needs}
 use borrow.Author.Tests.{eq-eqb, ne-eqb}
+use Rattle.append.proofs.AppendLaws.{when, unless}
 use Rattle.vectors.specs.ObjectText.{commaBefore}
-use Rattle.vectors.proofs.AppendLaws.{when, unless}
 use Rattle.vectors.proofs.answer.object.add_comma.Statement.{statement}
 use Rattle.vectors.proofs.answer.object.add_comma.Tie as tie
 

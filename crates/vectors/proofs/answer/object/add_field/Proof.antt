@@ -1,7 +1,7 @@
 -- `vectors::answer::object::add_field` meets its contract: three texts. Assumes nothing.
 use borrow.Author.Needs.{needs}
+use Rattle.append.proofs.AppendLaws.{_then_}
 use Rattle.vectors.specs.ObjectText.{fieldText}
-use Rattle.vectors.proofs.AppendLaws.{_then_}
 use Rattle.vectors.proofs.answer.object.add_field.Statement.{statement}
 use Rattle.vectors.proofs.answer.object.add_field.Tie as tie
 

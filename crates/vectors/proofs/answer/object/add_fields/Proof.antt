@@ -3,8 +3,8 @@ use mathlib.Core.Path.{_≡_}
 use Prim.Native.Nat.{_-_}
 use borrow.Author.Needs.{needs}
 use lib.ListN.{length, getD}
+use Rattle.append.proofs.AppendLaws.{AddedSoFar, adding-none, adding-more, adding-end}
 use Rattle.vectors.specs.ObjectText.{fieldText}
-use Rattle.vectors.proofs.AppendLaws.{AddedSoFar, adding-none, adding-more, adding-end}
 use Rattle.vectors.proofs.answer.object.add_fields.Statement.{statement}
 use Rattle.vectors.proofs.answer.object.add_fields.Tie as tie
 

@@ -1,7 +1,7 @@
 -- `vectors::answer::object::add_nested` meets its contract: one text or the other. Assumes nothing.
 use borrow.Author.Needs.{needs}
+use Rattle.append.proofs.AppendLaws.{when, unless}
 use Rattle.vectors.specs.ObjectText.{nestedText}
-use Rattle.vectors.proofs.AppendLaws.{when, unless}
 use Rattle.vectors.proofs.answer.object.add_nested.Statement.{statement}
 use Rattle.vectors.proofs.answer.object.add_nested.Tie as tie
 

@@ -1,8 +1,8 @@
 -- `vectors::answer::object::add_part` meets its contract: one text or the other. Assumes nothing.
 use borrow.Author.Needs.{needs}
 use borrow.Author.Tests.{eq-eqb, ne-eqb}
+use Rattle.append.proofs.AppendLaws.{when, unless}
 use Rattle.vectors.specs.ObjectText.{partText}
-use Rattle.vectors.proofs.AppendLaws.{when, unless}
 use Rattle.vectors.proofs.answer.object.add_part.Statement.{statement}
 use Rattle.vectors.proofs.answer.object.add_part.Tie as tie
 

@@ -1,7 +1,7 @@
 -- `vectors::answer::object::add_place` meets its contract: four texts. Assumes nothing.
 use borrow.Author.Needs.{needs}
+use Rattle.append.proofs.AppendLaws.{_then_}
 use Rattle.vectors.specs.ObjectText.{placeText}
-use Rattle.vectors.proofs.AppendLaws.{_then_}
 use Rattle.vectors.proofs.answer.object.add_place.Statement.{statement}
 use Rattle.vectors.proofs.answer.object.add_place.Tie as tie
 

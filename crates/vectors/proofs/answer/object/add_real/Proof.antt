@@ -7,9 +7,9 @@ use lib.Dec.{eqb}
 use lib.ListN.{length}
 use Rattle.common.specs.Lists.{all}
 use Rattle.card.specs.Date.{realDate}
+use Rattle.append.proofs.AppendLaws.{same-text, when, unless}
 use Rattle.vectors.specs.ObjectText.{decimalPair, textOfReal, realText}
 use Rattle.common.proofs.TestLaws.{and-left}
-use Rattle.vectors.proofs.AppendLaws.{same-text, when, unless}
 use Rattle.vectors.proofs.answer.object.add_real.Statement.{statement}
 use Rattle.vectors.proofs.answer.object.add_real.Tie as tie
 

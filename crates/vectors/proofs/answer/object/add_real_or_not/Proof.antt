@@ -1,7 +1,7 @@
 -- `vectors::answer::object::add_real_or_not` meets its contract: one text or the other. Assumes nothing.
 use borrow.Author.Needs.{needs}
+use Rattle.append.proofs.AppendLaws.{when, unless}
 use Rattle.vectors.specs.ObjectText.{textOfReal}
-use Rattle.vectors.proofs.AppendLaws.{when, unless}
 use Rattle.vectors.proofs.answer.object.add_real_or_not.Statement.{statement}
 use Rattle.vectors.proofs.answer.object.add_real_or_not.Tie as tie
 

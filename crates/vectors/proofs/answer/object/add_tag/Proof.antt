@@ -8,7 +8,7 @@ use borrow.Author.Tests.{lt-ltb, le-ltb}
 use Rattle.common.specs.Lists.{listOf}
 use Rattle.card.specs.Tlv.{tagBytes}
 use Rattle.text.specs.Hex.{hexOf, hexDigitAt, hexDigit}
-use Rattle.vectors.proofs.AppendLaws.{same-text}
+use Rattle.append.proofs.AppendLaws.{same-text}
 use Rattle.vectors.proofs.answer.object.add_tag.Statement.{statement}
 use Rattle.vectors.proofs.answer.object.add_tag.Tie as tie
 

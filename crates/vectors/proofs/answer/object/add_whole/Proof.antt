@@ -1,7 +1,7 @@
 -- `vectors::answer::object::add_whole` meets its contract: four texts. Assumes nothing.
 use borrow.Author.Needs.{needs}
+use Rattle.append.proofs.AppendLaws.{_then_}
 use Rattle.vectors.specs.ObjectText.{textOfHeader}
-use Rattle.vectors.proofs.AppendLaws.{_then_}
 use Rattle.vectors.proofs.answer.object.add_whole.Statement.{statement}
 use Rattle.vectors.proofs.answer.object.add_whole.Tie as tie
 

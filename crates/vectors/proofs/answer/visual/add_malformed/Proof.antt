@@ -1,7 +1,7 @@
 -- `vectors::answer::visual::add_malformed` meets its contract: three texts. Assumes nothing.
 use borrow.Author.Needs.{needs}
+use Rattle.append.proofs.AppendLaws.{_then_}
 use Rattle.vectors.specs.VisualText.{malformedText}
-use Rattle.vectors.proofs.AppendLaws.{_then_}
 use Rattle.vectors.proofs.answer.visual.add_malformed.Statement.{statement}
 use Rattle.vectors.proofs.answer.visual.add_malformed.Tie as tie
 

@@ -1,0 +1,50 @@
+-- `host::lists::gate_list_read` meets its contract: the answer, its number and what stands beside it. Assumes nothing.
+use borrow.Author.Needs.{needs}
+use mathlib.Core.Path.{_≡_, refl, sym, ap, _∙_}
+use Prim.Native.Nat.{ℕ}
+use Rattle.host.proofs.lists.gate_list_read.Statement.{statement}
+use Rattle.host.proofs.lists.gate_list_read.Tie as tie
+
+read-requires : tie.Need-read-requires
+read-requires c κs = search needs
+
+number-requires : tie.Need-number-requires
+number-requires c κs = search needs
+
+beside-requires : tie.Need-beside-requires
+beside-requires c κs = search needs
+
+write-where-requires : tie.Need-write-where-requires
+write-where-requires c κs = search needs
+
+write-where-requires-2 : tie.Need-write-where-requires-2
+write-where-requires-2 c κs = search needs
+
+same-length : tie.Need-same-length
+same-length c = search needs
+
+returns : tie.Need-returns
+returns c =
+    let e = c .before .before .before .before .before .before .before .before .read .ensures .0 in
+    let beside = c .before .before .before .before .beside .ensures ∙ ap (λ (x : ℕ × ℕ). x .1) e in (
+      c .before .before .before .before .before .number .ensures ∙ ap (λ (x : ℕ × ℕ). x .0) e,
+      (
+        rw (← beside) (c .before .before .write-where .ensures),
+        (
+          rw (← beside) (c .write-where2 .ensures),
+          c .before .before .before .before .before .before .before .before .read .ensures .1,
+        ),
+      ),
+    )
+
+pub gate-list-read-spec : {M : Type 1} → statement M
+gate-list-read-spec =
+    tie.close
+    (tie.spec
+    read-requires
+    number-requires
+    beside-requires
+    write-where-requires
+    write-where-requires-2
+    same-length
+    returns)

@@ -1,0 +1,43 @@
+-- `host::lists::gate_list_write` meets its contract: the answer, its number and what stands beside it. Assumes nothing.
+use borrow.Author.Needs.{needs}
+use mathlib.Core.Path.{_≡_, refl, sym, ap, _∙_}
+use Prim.Native.Nat.{ℕ}
+use Rattle.host.proofs.lists.gate_list_write.Statement.{statement}
+use Rattle.host.proofs.lists.gate_list_write.Tie as tie
+
+write-requires : tie.Need-write-requires
+write-requires c κs = search needs
+
+number-requires : tie.Need-number-requires
+number-requires c κs = search needs
+
+beside-requires : tie.Need-beside-requires
+beside-requires c κs = search needs
+
+write-where-requires : tie.Need-write-where-requires
+write-where-requires c κs = search needs
+
+same-length : tie.Need-same-length
+same-length c = search needs
+
+returns : tie.Need-returns
+returns c =
+    let e = c .before .before .before .before .before .before .write .ensures .0 in
+    let beside = c .before .before .beside .ensures ∙ ap (λ (x : ℕ × ℕ). x .1) e in (
+      c .before .before .before .number .ensures ∙ ap (λ (x : ℕ × ℕ). x .0) e,
+      (
+        rw (← beside) (c .write-where .ensures),
+        c .before .before .before .before .before .before .write .ensures .1,
+      ),
+    )
+
+pub gate-list-write-spec : {M : Type 1} → statement M
+gate-list-write-spec =
+    tie.close
+    (tie.spec
+    write-requires
+    number-requires
+    beside-requires
+    write-where-requires
+    same-length
+    returns)
