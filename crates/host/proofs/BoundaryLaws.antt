@@ -5,13 +5,13 @@ use mathlib.Core.Path.{_≡_, refl, sym, ap, ap₂, _∙_}
 use mathlib.Core.Bool.{Bool, true, false, cond}
 use mathlib.Core.List.{List}
 use Prim.Native.Nat.{ℕ}
-use borrow.Author.Tests.{eq-eqb, ne-eqb, eqb-true, eqb-false}
+use borrow.Author.Tests.{eqb-true, eqb-false}
 use lib.Dec.{eqb}
 use lib.ListN.{length}
 use Rattle.card.specs.Object.{empty}
 use Rattle.common.proofs.TestLaws.{clash}
 use Rattle.session.specs.Ranges.{rangedValues, valuesInRange, inRange}
-use Rattle.session.specs.Operation.{replyNumber, given, dead, answerRefusal, answerOf, verdictRefusal, verdictOf, commandRefusal, commandOf, fieldPlace, stampAnswer, previewRefusal, previewOf}
+use Rattle.session.specs.Operation.{replyNumber, given, dead, answerRefusal, answerOf, verdictRefusal, verdictOf, commandRefusal, commandOf, fieldPlace, stampAnswer, previewOf}
 use Rattle.session.specs.Promise.{Bytes, History, finish}
 use Rattle.session.specs.declared.state.Session.{Session}
 use Rattle.session.specs.declared.state.Answered.{Answered}

@@ -13,7 +13,7 @@ use borrow.Author.Tests.{leb-true, eqb-true}
 use Rattle.common.specs.Lists.{concat, listOf, overPlacesWhere}
 use Rattle.common.proofs.ListsLaws.{listOf-is}
 use Rattle.common.proofs.StoreLaws.{store-first, front-all}
-use Rattle.common.proofs.TestLaws.{clash, and-left, and-right}
+use Rattle.common.proofs.TestLaws.{and-left, and-right}
 use Rattle.card.specs.Object.{empty, mostFields}
 use Rattle.card.specs.declared.object.Part.{Part}
 use Rattle.session.specs.Operation.{dead}
@@ -22,7 +22,7 @@ use Rattle.session.proofs.BytesLaws.{part-bytes}
 use Rattle.session.specs.declared.state.Session.{Session}
 use Rattle.session.specs.declared.state.Next.{Next}
 use Rattle.session.specs.declared.state.Next.the-variants.{Initial, GetResponse, InitialAgain, GetResponseAgain}
-use Rattle.host.specs.Image.{highFirst, fromHigh, partSize, partBytes, partsBytes, partIn, flagByte, nextKind, nextByte, nextIn, isNext, imageSize, imageVersion, smallBytes, segments, segmentSizes, segmentsIn, cutFrom, saveOf, sessionIn, formed, isImage, loadOf, PartFits, PartsFit, Fits}
+use Rattle.host.specs.Image.{highFirst, fromHigh, partSize, partBytes, partsBytes, partIn, flagByte, nextKind, nextByte, nextIn, isNext, imageSize, imageVersion, smallBytes, segments, segmentSizes, segmentsIn, cutFrom, saveOf, sessionIn, formed, isImage, loadOf, PartFits, Fits}
 use Rattle.host.proofs.NumberLaws.{length-high, high-again, bytes-again}
 use Rattle.host.proofs.SegmentLaws.{Sized, none, more, total, length-joined, cut-again, join-again}
 

@@ -5,7 +5,7 @@ use mathlib.Core.List.{List, [], _∷_, _++_, append-assoc}
 use Prim.Native.Nat.{ℕ, _+_, _≤_}
 use native.Mathlib.Nat.{add-zero, zero-add, add-assoc}
 use native.Mathlib.Omega.{arith}
-use lib.ListN.{length, take, drop, length-append, take-append-drop, drop-of-length-le}
+use lib.ListN.{length, drop, length-append, take-append-drop, drop-of-length-le}
 use lib.Seq.{take-at, drop-at, drop-drop}
 use Rattle.common.specs.Lists.{concat}
 use Rattle.host.specs.Image.{cutFrom}

@@ -1,18 +1,12 @@
 -- `host::cards::gate_unpack` meets its contract: written where it is accepted. Assumes nothing.
 use borrow.Author.Needs.{needs}
-use mathlib.Core.Path.{_≡_, refl, sym, ap, _∙_}
+use mathlib.Core.Path.{_≡_, ap, _∙_}
 use borrow.Author.Tests.{eq-eqb, ne-eqb}
 use mathlib.Core.List.{List}
 use Prim.Native.Nat.{ℕ}
 use Rattle.card.specs.Fascn.{unpacked, unpackOf}
 use Rattle.host.proofs.cards.gate_unpack.Statement.{statement}
 use Rattle.host.proofs.cards.gate_unpack.Tie as tie
-
-unpack-requires : tie.Need-unpack-requires
-unpack-requires c κs = search needs
-
-number-requires : tie.Need-number-requires
-number-requires c κs = search needs
 
 returns : tie.Need-returns
 returns c =
@@ -26,4 +20,4 @@ returns-2 c =
     (c .before .number .ensures ∙ ap (λ (x : ℕ × List ℕ). x .0) e, rw (ne-eqb _ 0 (c .if1 .left)))
 
 pub gate-unpack-spec : {M : Type 1} → statement M
-gate-unpack-spec = tie.close (tie.spec unpack-requires number-requires returns returns-2)
+gate-unpack-spec = tie.close (tie.spec (λ c κs. search needs) (λ c κs. search needs) returns returns-2)

@@ -6,24 +6,6 @@ use Rattle.host.proofs.ImageLaws.{array-in}
 use Rattle.host.proofs.image.card_in.Statement.{statement}
 use Rattle.host.proofs.image.card_in.Tie as tie
 
-slice-aggregate-store : tie.Need-slice-aggregate-store
-slice-aggregate-store c = search needs
-
-part-requires : tie.Need-part-requires
-part-requires c κs = search needs
-
-store-requires : tie.Need-store-requires
-store-requires c κs = search needs
-
-step1-in-requires : tie.Need-step1-in-requires
-step1-in-requires c κs = search needs
-
-four-at-requires : tie.Need-four-at-requires
-four-at-requires c κs = search needs
-
-part-at-requires : tie.Need-part-at-requires
-part-at-requires c κs = search needs
-
 returns : tie.Need-returns
 unfolding segmentsIn cutFrom
 returns c =
@@ -35,10 +17,10 @@ pub card-in-spec : {M : Type 1} → statement M
 card-in-spec =
     tie.close
     (tie.spec
-    slice-aggregate-store
-    part-requires
-    store-requires
-    step1-in-requires
-    four-at-requires
-    part-at-requires
+    (λ c. search needs)
+    (λ c κs. search needs)
+    (λ c κs. search needs)
+    (λ c κs. search needs)
+    (λ c κs. search needs)
+    (λ c κs. search needs)
     returns)

@@ -7,21 +7,6 @@ use Rattle.host.specs.Image.{isImage}
 use Rattle.host.proofs.image.is_image.Statement.{statement}
 use Rattle.host.proofs.image.is_image.Tie as tie
 
-element-copy-out-next : tie.Need-element-copy-out-next
-element-copy-out-next c = search needs
-
-element-copy-out-next-2 : tie.Need-element-copy-out-next-2
-element-copy-out-next-2 c = search needs
-
-element-copy-out-next-3 : tie.Need-element-copy-out-next-3
-element-copy-out-next-3 c = search needs
-
-element-copy-out-result : tie.Need-element-copy-out-result
-element-copy-out-result c = search needs
-
-element-copy-out-result-2 : tie.Need-element-copy-out-result-2
-element-copy-out-result-2 c = search needs
-
 returns : tie.Need-returns
 unfolding isImage segmentsIn cutFrom
 returns c = let b = c .before .before .before .before .before .args .image .now in rw (getD-take 9 b 0 0 (lit< tt), getD-take 9 b 3 0 (lit< tt), getD-take 9 b 4 0 (lit< tt), getD-take 9 b 5 0 (lit< tt))
@@ -30,9 +15,9 @@ pub is-image-spec : {M : Type 1} → statement M
 is-image-spec =
     tie.close
     (tie.spec
-    element-copy-out-next
-    element-copy-out-next-2
-    element-copy-out-next-3
-    element-copy-out-result
-    element-copy-out-result-2
+    (λ c. search needs)
+    (λ c. search needs)
+    (λ c. search needs)
+    (λ c. search needs)
+    (λ c. search needs)
     returns)

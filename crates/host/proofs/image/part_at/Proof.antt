@@ -8,18 +8,9 @@ use Rattle.host.proofs.NumberLaws.{part-in-part}
 use Rattle.host.proofs.image.part_at.Statement.{statement}
 use Rattle.host.proofs.image.part_at.Tie as tie
 
-four-at-requires : tie.Need-four-at-requires
-four-at-requires c κs = search needs
-
-add-four-at : tie.Need-add-four-at
-add-four-at c = search needs
-
-four-at-requires-2 : tie.Need-four-at-requires-2
-four-at-requires-2 c κs = search needs
-
 returns : tie.Need-returns
 unfolding partIn
 returns c = let a = c .before .before .before .args in rw (c .before .four-at .ensures, c .four-at2 .ensures, take-take 4 8 (drop (a .at) (a .s .now)) (lit≤ tt), part-in-part (a .s .now) (a .at) 4 4 8 (lit≤ tt))
 
 pub part-at-spec : {M : Type 1} → statement M
-part-at-spec = tie.close (tie.spec four-at-requires add-four-at four-at-requires-2 returns)
+part-at-spec = tie.close (tie.spec (λ c κs. search needs) (λ c. search needs) (λ c κs. search needs) returns)

@@ -1,24 +1,12 @@
 -- `host::image::put_part` meets its contract: start and length. Assumes nothing.
 use borrow.Author.Needs.{needs}
-use mathlib.Core.Path.{_≡_, sym, ap, _∙_}
+use mathlib.Core.Path.{sym, ap}
 use Prim.Native.Nat.{ℕ, _+_}
 use native.Mathlib.Omega.{arith}
 use Rattle.host.specs.Image.{highFirst, partBytes}
 use Rattle.host.proofs.NumberLaws.{length-high, over-on}
 use Rattle.host.proofs.image.put_part.Statement.{statement}
 use Rattle.host.proofs.image.put_part.Tie as tie
-
-put-four-requires : tie.Need-put-four-requires
-put-four-requires c κs = search needs
-
-add-put-four : tie.Need-add-put-four
-add-put-four c = search needs
-
-put-four-requires-2 : tie.Need-put-four-requires-2
-put-four-requires-2 c κs = search needs
-
-same-length : tie.Need-same-length
-same-length c = search needs
 
 returns : tie.Need-returns
 unfolding partBytes
@@ -30,4 +18,4 @@ returns c =
 
 pub put-part-spec : {M : Type 1} → statement M
 put-part-spec =
-    tie.close (tie.spec put-four-requires add-put-four put-four-requires-2 same-length returns)
+    tie.close (tie.spec (λ c κs. search needs) (λ c. search needs) (λ c κs. search needs) (λ c. search needs) returns)

@@ -1,70 +1,15 @@
 -- `host::image::put_parts` meets its contract: three parts after three. Assumes nothing.
 use borrow.Author.Needs.{needs}
-use mathlib.Core.Path.{_≡_, sym, ap, _∙_}
+use mathlib.Core.Path.{_≡_, ap, _∙_}
 use mathlib.Core.List.{_++_}
 use native.Mathlib.Omega.{arith}
 use lib.ListN.{length, length-append}
 use Rattle.common.specs.Lists.{overPlaces}
 use Rattle.card.specs.Object.{mostFields}
-use Rattle.card.specs.declared.object.Part.{Part}
 use Rattle.host.proofs.NumberLaws.{over-on}
 use Rattle.host.proofs.SaveLaws.{threeFrom, length-three, three-by-three, nine-fit}
 use Rattle.host.proofs.image.put_parts.Statement.{statement}
 use Rattle.host.proofs.image.put_parts.Tie as tie
-
-sized-parts-requires : tie.Need-sized-parts-requires
-sized-parts-requires c κs = search needs
-
-array-copy-out-put-three : tie.Need-array-copy-out-put-three
-array-copy-out-put-three c = search needs
-
-array-copy-out-put-three-2 : tie.Need-array-copy-out-put-three-2
-array-copy-out-put-three-2 c = search needs
-
-array-copy-out-put-three-3 : tie.Need-array-copy-out-put-three-3
-array-copy-out-put-three-3 c = search needs
-
-put-three-requires : tie.Need-put-three-requires
-put-three-requires c κs = search needs
-
-mul-put-three : tie.Need-mul-put-three
-mul-put-three c = search needs
-
-add-put-three : tie.Need-add-put-three
-add-put-three c = search needs
-
-array-copy-out-put-three-4 : tie.Need-array-copy-out-put-three-4
-array-copy-out-put-three-4 c = search needs
-
-array-copy-out-put-three-5 : tie.Need-array-copy-out-put-three-5
-array-copy-out-put-three-5 c = search needs
-
-array-copy-out-put-three-6 : tie.Need-array-copy-out-put-three-6
-array-copy-out-put-three-6 c = search needs
-
-put-three-requires-2 : tie.Need-put-three-requires-2
-put-three-requires-2 c κs = search needs
-
-mul-put-three-2 : tie.Need-mul-put-three-2
-mul-put-three-2 c = search needs
-
-add-put-three-2 : tie.Need-add-put-three-2
-add-put-three-2 c = search needs
-
-array-copy-out-put-three-7 : tie.Need-array-copy-out-put-three-7
-array-copy-out-put-three-7 c = search needs
-
-array-copy-out-put-three-8 : tie.Need-array-copy-out-put-three-8
-array-copy-out-put-three-8 c = search needs
-
-array-copy-out-put-three-9 : tie.Need-array-copy-out-put-three-9
-array-copy-out-put-three-9 c = search needs
-
-put-three-requires-3 : tie.Need-put-three-requires-3
-put-three-requires-3 c κs = search needs
-
-same-length : tie.Need-same-length
-same-length c = search needs
 
 returns : tie.Need-returns
 returns c =
@@ -87,22 +32,22 @@ pub put-parts-spec : {M : Type 1} → statement M
 put-parts-spec =
     tie.close
     (tie.spec
-    sized-parts-requires
-    array-copy-out-put-three
-    array-copy-out-put-three-2
-    array-copy-out-put-three-3
-    put-three-requires
-    mul-put-three
-    add-put-three
-    array-copy-out-put-three-4
-    array-copy-out-put-three-5
-    array-copy-out-put-three-6
-    put-three-requires-2
-    mul-put-three-2
-    add-put-three-2
-    array-copy-out-put-three-7
-    array-copy-out-put-three-8
-    array-copy-out-put-three-9
-    put-three-requires-3
-    same-length
+    (λ c κs. search needs)
+    (λ c. search needs)
+    (λ c. search needs)
+    (λ c. search needs)
+    (λ c κs. search needs)
+    (λ c. search needs)
+    (λ c. search needs)
+    (λ c. search needs)
+    (λ c. search needs)
+    (λ c. search needs)
+    (λ c κs. search needs)
+    (λ c. search needs)
+    (λ c. search needs)
+    (λ c. search needs)
+    (λ c. search needs)
+    (λ c. search needs)
+    (λ c κs. search needs)
+    (λ c. search needs)
     returns)

@@ -1,36 +1,13 @@
 -- `host::image::put_three` meets its contract: one part after another. Assumes nothing.
 use borrow.Author.Needs.{needs}
-use mathlib.Core.Path.{_≡_, sym, ap, _∙_}
 use mathlib.Core.List.{_++_}
-use Prim.Native.Nat.{ℕ, _+_}
 use native.Mathlib.Omega.{arith}
-use lib.ListN.{length, length-append}
+use lib.ListN.{length-append}
 use Rattle.host.specs.Image.{partBytes}
 use Rattle.host.proofs.NumberLaws.{over-on}
 use Rattle.host.proofs.ImageLaws.{length-part}
 use Rattle.host.proofs.image.put_three.Statement.{statement}
 use Rattle.host.proofs.image.put_three.Tie as tie
-
-put-part-requires : tie.Need-put-part-requires
-put-part-requires c κs = search needs
-
-add-put-part : tie.Need-add-put-part
-add-put-part c = search needs
-
-put-part-requires-2 : tie.Need-put-part-requires-2
-put-part-requires-2 c κs = search needs
-
-mul-put-part : tie.Need-mul-put-part
-mul-put-part c = search needs
-
-add-put-part-2 : tie.Need-add-put-part-2
-add-put-part-2 c = search needs
-
-put-part-requires-3 : tie.Need-put-part-requires-3
-put-part-requires-3 c κs = search needs
-
-same-length : tie.Need-same-length
-same-length c = search needs
 
 returns : tie.Need-returns
 returns c =
@@ -47,11 +24,11 @@ pub put-three-spec : {M : Type 1} → statement M
 put-three-spec =
     tie.close
     (tie.spec
-    put-part-requires
-    add-put-part
-    put-part-requires-2
-    mul-put-part
-    add-put-part-2
-    put-part-requires-3
-    same-length
+    (λ c κs. search needs)
+    (λ c. search needs)
+    (λ c κs. search needs)
+    (λ c. search needs)
+    (λ c. search needs)
+    (λ c κs. search needs)
+    (λ c. search needs)
     returns)

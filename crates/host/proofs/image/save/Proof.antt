@@ -3,72 +3,15 @@ use borrow.Author.Needs.{needs}
 use mathlib.Core.Path.{_≡_, refl, sym, ap, _∙_}
 use native.Mathlib.Omega.{arith}
 use lib.ListN.{length}
-use Rattle.host.specs.Image.{highFirst, partBytes, partsBytes, smallBytes, saveOf, loadOf, Fits}
+use Rattle.host.specs.Image.{highFirst, partBytes, partsBytes, smallBytes, loadOf, Fits}
 use Rattle.host.proofs.NumberLaws.{length-high}
 use Rattle.host.proofs.ImageLaws.{length-part, length-parts, load-save}
 use Rattle.host.proofs.SaveLaws.{fill-first, fill-on, fill-store, filled-whole, saved}
 use Rattle.host.proofs.image.save.Statement.{statement}
 use Rattle.host.proofs.image.save.Tie as tie
 
-sized-aid-requires : tie.Need-sized-aid-requires
-sized-aid-requires c κs = search needs
-
-sized-outcomes-requires : tie.Need-sized-outcomes-requires
-sized-outcomes-requires c κs = search needs
-
-sized-fascn-requires : tie.Need-sized-fascn-requires
-sized-fascn-requires c κs = search needs
-
-flag-byte-requires : tie.Need-flag-byte-requires
-flag-byte-requires c κs = search needs
-
-next-kind-requires : tie.Need-next-kind-requires
-next-kind-requires c κs = search needs
-
-next-byte-requires : tie.Need-next-byte-requires
-next-byte-requires c κs = search needs
-
-slice-aggregate-store : tie.Need-slice-aggregate-store
-slice-aggregate-store c = search needs
-
-store-requires : tie.Need-store-requires
-store-requires c κs = search needs
-
-put-four-requires : tie.Need-put-four-requires
-put-four-requires c κs = search needs
-
-put-four-requires-2 : tie.Need-put-four-requires-2
-put-four-requires-2 c κs = search needs
-
-put-eight-requires : tie.Need-put-eight-requires
-put-eight-requires c κs = search needs
-
-put-eight-requires-2 : tie.Need-put-eight-requires-2
-put-eight-requires-2 c κs = search needs
-
-slice-aggregate-store-2 : tie.Need-slice-aggregate-store-2
-slice-aggregate-store-2 c = search needs
-
-store-requires-2 : tie.Need-store-requires-2
-store-requires-2 c κs = search needs
-
-slice-aggregate-store-3 : tie.Need-slice-aggregate-store-3
-slice-aggregate-store-3 c = search needs
-
-store-requires-3 : tie.Need-store-requires-3
-store-requires-3 c κs = search needs
-
 slice-aggregate-store-4 : tie.Need-slice-aggregate-store-4
 slice-aggregate-store-4 c = sym (c .before .before .before .before .before .before .before .before .before .before .before .before .before .before .before .before .before .before .before .before .before .before .sized-fascn .ensures)
-
-store-requires-4 : tie.Need-store-requires-4
-store-requires-4 c κs = search needs
-
-put-parts-requires : tie.Need-put-parts-requires
-put-parts-requires c κs = search needs
-
-put-part-requires : tie.Need-put-part-requires
-put-part-requires c κs = search needs
 
 returns : tie.Need-returns
 returns c =
@@ -116,24 +59,24 @@ pub save-spec : {M : Type 1} → statement M
 save-spec =
     tie.close
     (tie.spec
-    sized-aid-requires
-    sized-outcomes-requires
-    sized-fascn-requires
-    flag-byte-requires
-    next-kind-requires
-    next-byte-requires
-    slice-aggregate-store
-    store-requires
-    put-four-requires
-    put-four-requires-2
-    put-eight-requires
-    put-eight-requires-2
-    slice-aggregate-store-2
-    store-requires-2
-    slice-aggregate-store-3
-    store-requires-3
+    (λ c κs. search needs)
+    (λ c κs. search needs)
+    (λ c κs. search needs)
+    (λ c κs. search needs)
+    (λ c κs. search needs)
+    (λ c κs. search needs)
+    (λ c. search needs)
+    (λ c κs. search needs)
+    (λ c κs. search needs)
+    (λ c κs. search needs)
+    (λ c κs. search needs)
+    (λ c κs. search needs)
+    (λ c. search needs)
+    (λ c κs. search needs)
+    (λ c. search needs)
+    (λ c κs. search needs)
     slice-aggregate-store-4
-    store-requires-4
-    put-parts-requires
-    put-part-requires
+    (λ c κs. search needs)
+    (λ c κs. search needs)
+    (λ c κs. search needs)
     returns)

@@ -1,24 +1,9 @@
 -- `host::lists::gate_cin_look_up` meets its contract: the answer, its number and what stands beside it. Assumes nothing.
 use borrow.Author.Needs.{needs}
-use mathlib.Core.Path.{_≡_, refl, sym, ap, _∙_}
+use mathlib.Core.Path.{ap, _∙_}
 use Prim.Native.Nat.{ℕ}
 use Rattle.host.proofs.lists.gate_cin_look_up.Statement.{statement}
 use Rattle.host.proofs.lists.gate_cin_look_up.Tie as tie
-
-look-up-requires : tie.Need-look-up-requires
-look-up-requires c κs = search needs
-
-number-requires : tie.Need-number-requires
-number-requires c κs = search needs
-
-beside-requires : tie.Need-beside-requires
-beside-requires c κs = search needs
-
-write-where-requires : tie.Need-write-where-requires
-write-where-requires c κs = search needs
-
-write-where-requires-2 : tie.Need-write-where-requires-2
-write-where-requires-2 c κs = search needs
 
 returns : tie.Need-returns
 returns c =
@@ -35,9 +20,9 @@ pub gate-cin-look-up-spec : {M : Type 1} → statement M
 gate-cin-look-up-spec =
     tie.close
     (tie.spec
-    look-up-requires
-    number-requires
-    beside-requires
-    write-where-requires
-    write-where-requires-2
+    (λ c κs. search needs)
+    (λ c κs. search needs)
+    (λ c κs. search needs)
+    (λ c κs. search needs)
+    (λ c κs. search needs)
     returns)

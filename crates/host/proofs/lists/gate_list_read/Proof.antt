@@ -1,27 +1,9 @@
 -- `host::lists::gate_list_read` meets its contract: the answer, its number and what stands beside it. Assumes nothing.
 use borrow.Author.Needs.{needs}
-use mathlib.Core.Path.{_≡_, refl, sym, ap, _∙_}
+use mathlib.Core.Path.{ap, _∙_}
 use Prim.Native.Nat.{ℕ}
 use Rattle.host.proofs.lists.gate_list_read.Statement.{statement}
 use Rattle.host.proofs.lists.gate_list_read.Tie as tie
-
-read-requires : tie.Need-read-requires
-read-requires c κs = search needs
-
-number-requires : tie.Need-number-requires
-number-requires c κs = search needs
-
-beside-requires : tie.Need-beside-requires
-beside-requires c κs = search needs
-
-write-where-requires : tie.Need-write-where-requires
-write-where-requires c κs = search needs
-
-write-where-requires-2 : tie.Need-write-where-requires-2
-write-where-requires-2 c κs = search needs
-
-same-length : tie.Need-same-length
-same-length c = search needs
 
 returns : tie.Need-returns
 returns c =
@@ -41,10 +23,10 @@ pub gate-list-read-spec : {M : Type 1} → statement M
 gate-list-read-spec =
     tie.close
     (tie.spec
-    read-requires
-    number-requires
-    beside-requires
-    write-where-requires
-    write-where-requires-2
-    same-length
+    (λ c κs. search needs)
+    (λ c κs. search needs)
+    (λ c κs. search needs)
+    (λ c κs. search needs)
+    (λ c κs. search needs)
+    (λ c. search needs)
     returns)

@@ -1,24 +1,9 @@
 -- `host::lists::gate_list_write` meets its contract: the answer, its number and what stands beside it. Assumes nothing.
 use borrow.Author.Needs.{needs}
-use mathlib.Core.Path.{_≡_, refl, sym, ap, _∙_}
+use mathlib.Core.Path.{ap, _∙_}
 use Prim.Native.Nat.{ℕ}
 use Rattle.host.proofs.lists.gate_list_write.Statement.{statement}
 use Rattle.host.proofs.lists.gate_list_write.Tie as tie
-
-write-requires : tie.Need-write-requires
-write-requires c κs = search needs
-
-number-requires : tie.Need-number-requires
-number-requires c κs = search needs
-
-beside-requires : tie.Need-beside-requires
-beside-requires c κs = search needs
-
-write-where-requires : tie.Need-write-where-requires
-write-where-requires c κs = search needs
-
-same-length : tie.Need-same-length
-same-length c = search needs
 
 returns : tie.Need-returns
 returns c =
@@ -35,9 +20,9 @@ pub gate-list-write-spec : {M : Type 1} → statement M
 gate-list-write-spec =
     tie.close
     (tie.spec
-    write-requires
-    number-requires
-    beside-requires
-    write-where-requires
-    same-length
+    (λ c κs. search needs)
+    (λ c κs. search needs)
+    (λ c κs. search needs)
+    (λ c κs. search needs)
+    (λ c. search needs)
     returns)

@@ -5,22 +5,9 @@ use native.Mathlib.Omega.{arith}
 use lib.ListN.{length}
 use Rattle.common.specs.Lists.{overPlaces}
 use Rattle.common.proofs.StoreLaws.{store-fits}
-use Rattle.host.specs.Image.{highFirst}
 use Rattle.host.proofs.NumberLaws.{four-high, length-high}
 use Rattle.host.proofs.number.put_four.Statement.{statement}
 use Rattle.host.proofs.number.put_four.Tie as tie
-
-four-bytes-requires : tie.Need-four-bytes-requires
-four-bytes-requires c κs = search needs
-
-slice-aggregate-store : tie.Need-slice-aggregate-store
-slice-aggregate-store c = search needs
-
-store-requires : tie.Need-store-requires
-store-requires c κs = search needs
-
-same-length : tie.Need-same-length
-same-length c = search needs
 
 returns : tie.Need-returns
 returns c =
@@ -32,4 +19,4 @@ returns c =
 pub put-four-spec : {M : Type 1} → statement M
 put-four-spec =
     tie.close
-    (tie.spec four-bytes-requires slice-aggregate-store store-requires same-length returns)
+    (tie.spec (λ c κs. search needs) (λ c. search needs) (λ c κs. search needs) (λ c. search needs) returns)

@@ -1,9 +1,6 @@
 -- `host::sessions::gate_answer` meets its contract: the answer is taken on the session of the image. Assumes nothing.
 use borrow.Author.Needs.{needs}
-use mathlib.Core.Path.{_≡_, refl, sym, ap, _∙_}
-use Prim.Native.Nat.{ℕ}
-use lib.ListN.{length}
-use Rattle.session.specs.declared.state.Session.{Session}
+use mathlib.Core.Path.{_≡_}
 use Rattle.host.specs.Image.{loadOf}
 use native.Mathlib.Omega.{arith}
 use Rattle.session.specs.Operation.{given, answerOf, answerBuffer}
@@ -11,18 +8,6 @@ use Rattle.session.proofs.CallPromiseLaws.{answer-promise}
 use Rattle.host.proofs.BoundaryLaws.{answer-same, kept}
 use Rattle.host.proofs.sessions.gate_answer.Statement.{statement}
 use Rattle.host.proofs.sessions.gate_answer.Tie as tie
-
-load-requires : tie.Need-load-requires
-load-requires c κs = search needs
-
-answer-requires : tie.Need-answer-requires
-answer-requires c κs = search needs
-
-keep-requires : tie.Need-keep-requires
-keep-requires c κs = search needs
-
-same-length : tie.Need-same-length
-same-length c = search needs
 
 returns : tie.Need-returns
 returns c =
@@ -35,4 +20,4 @@ returns c =
 
 pub gate-answer-spec : {M : Type 1} → statement M
 gate-answer-spec =
-    tie.close (tie.spec load-requires answer-requires keep-requires same-length returns)
+    tie.close (tie.spec (λ c κs. search needs) (λ c κs. search needs) (λ c κs. search needs) (λ c. search needs) returns)

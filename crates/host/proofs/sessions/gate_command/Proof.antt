@@ -1,6 +1,6 @@
 -- `host::sessions::gate_command` meets its contract: the command of the session of the image. Assumes nothing.
 use borrow.Author.Needs.{needs}
-use mathlib.Core.Path.{_≡_, refl, sym, ap, _∙_}
+use mathlib.Core.Path.{_≡_, ap, _∙_}
 use Prim.Native.Nat.{ℕ}
 use lib.ListN.{length}
 use Rattle.session.specs.declared.state.Session.{Session}
@@ -12,21 +12,6 @@ use Rattle.session.proofs.CallPromiseLaws.{command-promise}
 use Rattle.host.proofs.BoundaryLaws.{command-same, kept, counted}
 use Rattle.host.proofs.sessions.gate_command.Statement.{statement}
 use Rattle.host.proofs.sessions.gate_command.Tie as tie
-
-load-requires : tie.Need-load-requires
-load-requires c κs = search needs
-
-command-requires : tie.Need-command-requires
-command-requires c κs = search needs
-
-keep-requires : tie.Need-keep-requires
-keep-requires c κs = search needs
-
-write-where-requires : tie.Need-write-where-requires
-write-where-requires c κs = search needs
-
-same-length : tie.Need-same-length
-same-length c = search needs
 
 returns : tie.Need-returns
 returns c =
@@ -47,9 +32,9 @@ pub gate-command-spec : {M : Type 1} → statement M
 gate-command-spec =
     tie.close
     (tie.spec
-    load-requires
-    command-requires
-    keep-requires
-    write-where-requires
-    same-length
+    (λ c κs. search needs)
+    (λ c κs. search needs)
+    (λ c κs. search needs)
+    (λ c κs. search needs)
+    (λ c. search needs)
     returns)

@@ -1,16 +1,10 @@
 -- `host::sessions::gate_open` meets its contract: the session of an accepted opening is saved. Assumes nothing.
 use borrow.Author.Needs.{needs}
-use mathlib.Core.Path.{_≡_, refl, sym, ap, _∙_}
+use mathlib.Core.Path.{sym, ap, _∙_}
 use Prim.Native.Nat.{ℕ}
 use Rattle.session.specs.declared.state.Session.{Session}
 use Rattle.host.proofs.sessions.gate_open.Statement.{statement}
 use Rattle.host.proofs.sessions.gate_open.Tie as tie
-
-open-requires : tie.Need-open-requires
-open-requires c κs = search needs
-
-keep-requires : tie.Need-keep-requires
-keep-requires c κs = search needs
 
 returns : tie.Need-returns
 returns c =
@@ -19,4 +13,4 @@ returns c =
     (k .0 ∙ ap (λ (x : ℕ × Session). x .0) e, (rw (← e) (k .1 .0), λ z object. rw (k .1 .1 z) (c .before .before .«open» .ensures .1 (sym (k .0) ∙ z) object)))
 
 pub gate-open-spec : {M : Type 1} → statement M
-gate-open-spec = tie.close (tie.spec open-requires keep-requires returns)
+gate-open-spec = tie.close (tie.spec (λ c κs. search needs) (λ c κs. search needs) returns)

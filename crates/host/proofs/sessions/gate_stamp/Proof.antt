@@ -1,6 +1,6 @@
 -- `host::sessions::gate_stamp` meets its contract: the stamp of the session of the image. Assumes nothing.
 use borrow.Author.Needs.{needs}
-use mathlib.Core.Path.{_≡_, refl, sym, ap, _∙_}
+use mathlib.Core.Path.{_≡_, ap, _∙_}
 use Prim.Native.Nat.{ℕ}
 use lib.ListN.{length}
 use Rattle.session.specs.declared.state.Session.{Session}
@@ -10,18 +10,6 @@ use Rattle.session.proofs.CallPromiseLaws.{stamp-promise}
 use Rattle.host.proofs.BoundaryLaws.{stamp-given}
 use Rattle.host.proofs.sessions.gate_stamp.Statement.{statement}
 use Rattle.host.proofs.sessions.gate_stamp.Tie as tie
-
-load-requires : tie.Need-load-requires
-load-requires c κs = search needs
-
-stamp-requires : tie.Need-stamp-requires
-stamp-requires c κs = search needs
-
-number-requires : tie.Need-number-requires
-number-requires c κs = search needs
-
-same-length : tie.Need-same-length
-same-length c = search needs
 
 returns : tie.Need-returns
 returns c =
@@ -34,4 +22,4 @@ returns c =
 
 pub gate-stamp-spec : {M : Type 1} → statement M
 gate-stamp-spec =
-    tie.close (tie.spec load-requires stamp-requires number-requires same-length returns)
+    tie.close (tie.spec (λ c κs. search needs) (λ c κs. search needs) (λ c κs. search needs) (λ c. search needs) returns)

@@ -1,24 +1,12 @@
 -- `host::sessions::gate_verdict` meets its contract: the verdict is taken on the session of the image. Assumes nothing.
 use borrow.Author.Needs.{needs}
-use mathlib.Core.Path.{_≡_, refl, sym, ap, _∙_}
-use Prim.Native.Nat.{ℕ}
-use lib.ListN.{length}
-use Rattle.session.specs.declared.state.Session.{Session}
+use mathlib.Core.Path.{_≡_}
 use Rattle.host.specs.Image.{loadOf}
 use Rattle.session.specs.Operation.{given, verdictOf}
 use Rattle.session.proofs.CallPromiseLaws.{verdict-promise}
 use Rattle.host.proofs.BoundaryLaws.{verdict-same, kept}
 use Rattle.host.proofs.sessions.gate_verdict.Statement.{statement}
 use Rattle.host.proofs.sessions.gate_verdict.Tie as tie
-
-load-requires : tie.Need-load-requires
-load-requires c κs = search needs
-
-verdict-requires : tie.Need-verdict-requires
-verdict-requires c κs = search needs
-
-keep-requires : tie.Need-keep-requires
-keep-requires c κs = search needs
 
 returns : tie.Need-returns
 returns c =
@@ -29,4 +17,4 @@ returns c =
     (k .0, (k .1, verdict-promise s (a .kind) (a .yes) (a .fascn .now) (k .2)))
 
 pub gate-verdict-spec : {M : Type 1} → statement M
-gate-verdict-spec = tie.close (tie.spec load-requires verdict-requires keep-requires returns)
+gate-verdict-spec = tie.close (tie.spec (λ c κs. search needs) (λ c κs. search needs) (λ c κs. search needs) returns)

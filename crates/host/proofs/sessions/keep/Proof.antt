@@ -1,16 +1,10 @@
 -- `host::sessions::keep` meets its contract: the session is saved, or the image stays. Assumes nothing.
 use borrow.Author.Needs.{needs}
-use mathlib.Core.Path.{_≡_, refl, sym, ap, _∙_}
+use mathlib.Core.Path.{_≡_, sym, _∙_}
 use borrow.Author.Tests.{eq-eqb, ne-eqb}
 use Rattle.session.specs.Operation.{replyNumber}
 use Rattle.host.proofs.sessions.keep.Statement.{statement}
 use Rattle.host.proofs.sessions.keep.Tie as tie
-
-number-requires : tie.Need-number-requires
-number-requires c κs = search needs
-
-save-requires : tie.Need-save-requires
-save-requires c κs = search needs
 
 returns : tie.Need-returns
 returns c =
@@ -23,4 +17,4 @@ returns-2 c =
     (c .before .number .ensures, (rw (ne-eqb _ 0 h), λ e. absurd (c .if1 .left e)))
 
 pub keep-spec : {M : Type 1} → statement M
-keep-spec = tie.close (tie.spec number-requires save-requires returns returns-2)
+keep-spec = tie.close (tie.spec (λ c κs. search needs) (λ c κs. search needs) returns returns-2)

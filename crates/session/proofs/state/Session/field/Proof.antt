@@ -1,7 +1,6 @@
 -- `session::state::Session::field` meets its contract: the value is cut out at its place. Assumes nothing.
 use borrow.Author.Needs.{needs}
-use mathlib.Core.Path.{_≡_, ap, _∙_}
-use lib.ListN.{length}
+use mathlib.Core.Path.{ap, _∙_}
 use Rattle.card.specs.Object.{bytesAt}
 use Rattle.session.proofs.CallLaws.{place-value, part-cut}
 use Rattle.session.proofs.CallPromiseLaws.{field-both}

@@ -1,6 +1,6 @@
 -- `session::state::Session::place` meets its contract: where no condition refuses the call, the part lies inside the buffer. Assumes nothing.
 use borrow.Author.Needs.{needs}
-use mathlib.Core.Path.{_≡_, _∙_}
+use mathlib.Core.Path.{_≡_}
 use mathlib.Core.Bool.{Bool, true, not, _||_}
 use native.Mathlib.Omega.{arith}
 use Prim.Native.Nat.{_+_, _≤_}
@@ -9,7 +9,6 @@ use Rattle.session.specs.Tables.{since, objectSize}
 use Rattle.session.specs.Condition.{fieldRefused}
 use Rattle.session.specs.Ranges.{inRange, outOfRange}
 use Rattle.session.specs.Operation.{fieldPlace}
-use Rattle.card.specs.declared.object.Part.{Part}
 use Rattle.session.proofs.FigureLaws.{object-small}
 use Rattle.session.proofs.RangesLaws.{values-test, part-in-range}
 use Rattle.session.proofs.CallLaws.{place-refused, field-accepted, place-read}
