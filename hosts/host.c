@@ -131,14 +131,14 @@ static void lists(void) {
     static const char visual[] = "(cin (12345678))\n", *const typed[] = {"12345678", "7", "12x", "7"};
     uint8_t text[97] = "(card (0000 0000 000007) (0 0))\n(card (1341 0001 987654) (1 1))\n(card (9999 9999 999999) (9 9))\n";
     uint8_t out[96], digits[GATE_DIGITS], fascn[GATE_FASCN_SIZE];
-    uint64_t keys[4] = {0}, merged[4];
+    uint64_t keys[3] = {0}, merged[4];
     size_t count = 0, line = 0, listed = 0;
     gate_session session = {{0}};
     puts("a cancelled list from text");
-    keys_lines("read", gate_list_read(text, 96, keys, 4, &count, &line), keys, &count, &line);
+    keys_lines("read", gate_list_read(text, 96, keys, 3, &count, &line), keys, &count, &line);
     keys_lines("read", gate_list_read(text, 96, keys, 2, &count, &line), keys, &count, &line);
     text[40] = 'x';
-    keys_lines("read", gate_list_read(text, 96, keys, 4, &count, &line), keys, &count, &line);
+    keys_lines("read", gate_list_read(text, 96, keys, 3, &count, &line), keys, &count, &line);
     for (size_t room = 96; room >= 95; room--) {
         uint8_t number = gate_list_write(keys, 3, out, room, &count);
         printf(number == 0 ? "write %d %zu" : "write %d", number, count);

@@ -241,11 +241,11 @@ fn saved(object: &mut [u8]) {
 
 fn lists(object: &mut [u8]) {
     println!("a cancelled list from text");
-    let (mut keys, mut damaged) = ([0; 4], *LIST_TEXT);
+    let (mut keys, mut damaged) = ([0; 3], *LIST_TEXT);
     damaged[40] = b'x';
     call("read", gate::list_read(LIST_TEXT, &mut keys), key_lines);
     call("read", gate::list_read(LIST_TEXT, &mut [0; 2]), key_lines);
-    call("read", gate::list_read(&damaged, &mut [0; 4]), key_lines);
+    call("read", gate::list_read(&damaged, &mut [0; 3]), key_lines);
     for room in [96, 95] {
         call("write", gate::list_write(&keys[..3], &mut [0; 96][..room]), |lines| format!(" {}{}", lines.len() / 32, hex(lines)));
     }

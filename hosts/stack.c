@@ -1,5 +1,5 @@
 /* Measures the stack that each call of gate.h takes, and prints it in bytes, a line a call, and the most of all. Built and run at the root of the repository:
- *     gcc -std=gnu11 -O2 -Iinclude tools/stack.c target/staticlib/libhost.a -o target/stack && target/stack
+ *     gcc -std=gnu11 -O2 -Iinclude hosts/stack.c target/staticlib/libhost.a -o target/stack && target/stack
  * A call runs on a stack of its own, painted with one byte. The deepest byte that has changed, less the same with an empty function, is what the call took; its return address and the
  * arguments that lie on the stack are counted. What counts is the most over many inputs: small and large, accepted and refused, good cards and malformed ones. */
 #include <stdio.h>

@@ -1,19 +1,19 @@
-/* The gate reader core for C: documents 01 and 02 over a session of GATE_SESSION_SIZE bytes. Link libhost.a, which `rt staticlib host` writes.
+/* The gate reader core for C: documents 01 and 02 over a session of GATE_SESSION_SIZE bytes. Link libhost.a, which `rt staticlib host` writes. docs/HOSTS.md says in which order to call.
  *
- * A call gives the papers' number: 0 where it is accepted, else the refusal, and the first that fits in the order shown. A refused call leaves the session and every
- * byte that it was lent as they were, and writes no number through a pointer but the one that is named beside its refusal. docs/HOSTS.md says in which order to call.
+ * A call gives the papers' number: 0 where it is accepted, else the refusal, the first that fits in the order shown here. A refused call leaves the session and every byte that it was lent as
+ * they were. A number that is given through a pointer (*count, *line, *listed) is written only beside the number that it is named with, so set it before the call.
  *
- * A session is bytes that the caller holds: they may be copied, stored and taken up again. Bytes that no call wrote, all zeros among them, are a dead session: every call
- * on it but gate_open is refused by 4, and gate_field gives no bytes.
+ * A session is bytes that the caller holds: they may be copied, stored and taken up again. All zeros, and all other bytes that are no session's, are a dead session: every call on it but
+ * gate_open is refused by 4, and gate_field gives no bytes. There is no checksum: bytes that were altered in the store may be another session.
  *
- * What the caller owes: no pointer is NULL, also beside a length of 0; what a call may write overlaps nothing else that the call is given; a pointer to uint64_t or size_t is aligned
- * for it; a pointer beside a length has so many elements, and one to a session GATE_SESSION_SIZE bytes; one object buffer a session, which only gate_answer writes from the
- * opening on. Every other value of an argument is met with its number.
+ * What the caller owes, for the memory: no pointer is NULL, also beside a length of 0; what a call may write overlaps nothing else that the call is given; a pointer to uint64_t or size_t is
+ * aligned for it; a pointer beside a length has so many elements, and one without has as many as its type says. And for the stamp to be right: one object buffer a session, the same from its
+ * opening on, which only gate_answer writes. Another buffer there makes the reading another one, and touches nothing beside it. Every other value of an argument is met with its number.
  *
- * What the core never does: it calls no heap, has no variables of its own, keeps no pointer after a call, blocks on nothing, and calls nothing but memcpy and memset. So it
- * may be called from several threads at once, where no two calls share what one of them writes.
+ * What the core never does: it takes nothing from the heap, has no variables of its own, keeps no pointer after a call, waits for nothing, and calls nothing but memcpy. So it may be called
+ * from several threads at once, where no two calls share what one of them writes.
  *
- * x86-64, System V calling convention. Every call takes at most GATE_STACK_USE bytes of stack, as measured (docs/HOSTS.md). */
+ * x86-64, System V calling convention. */
 #ifndef GATE_H
 #define GATE_H
 
@@ -41,6 +41,14 @@ extern "C" {
 #define GATE_FASCN_SIZE 25 /* a FASC-N */
 #define GATE_DIGITS 32 /* its digits, one a byte */
 #define GATE_LINE_SIZE 32 /* a line of a cancelled card list */
+
+/* The stack that a call may take: measured 2,664 bytes at most (gate_answer; hosts/stack.c), not proved. */
+#define GATE_STACK_USE 4096
+
+/* Verdict kinds, what stamp byte 1 says, and the tags of gate_field. */
+enum { GATE_SIGNATURE = 1, GATE_SIGNER = 2, GATE_AUTHENTICATION = 3, GATE_FINGER = 4, GATE_PICTURE = 5 };
+enum { GATE_STANDS_OPEN = 0, GATE_STANDS_GRANTED = 1, GATE_STANDS_REJECTED = 2 };
+enum { GATE_TAG_FASCN = 0x30, GATE_TAG_AGENCY = 0x31, GATE_TAG_ORGANIZATION = 0x32, GATE_TAG_DUNS = 0x33, GATE_TAG_GUID = 0x34, GATE_TAG_EXPIRY = 0x35, GATE_TAG_SIGNATURE = 0x3E, GATE_TAG_BIOMETRIC = 0xBC, GATE_TAG_BUFFER_LENGTH = 0xEE };
 
 typedef struct gate_session {
     uint8_t bytes[GATE_SESSION_SIZE];
@@ -78,14 +86,14 @@ GATE_CHECKED uint8_t gate_command(gate_session *session, uint8_t *out, size_t ou
  * outstanding; 7 object buffer not GATE_OBJECT_SIZE bytes; 8 answer under 2 or over 258 bytes. */
 GATE_CHECKED uint8_t gate_answer(gate_session *session, uint8_t *object, size_t object_length, const uint8_t *answer, size_t answer_length, const uint64_t *cancelled, size_t cancelled_length);
 
-/* Files a verdict: kind 1 signature, 2 signer, 3 active authentication, 4 finger, 5 picture; yes 1 or no 0; on the FASC-N that it is about. 4; 9 not all read; 10 kind not 1 to 5;
+/* Files a verdict: its kind; yes 1 or no 0; the FASC-N that it is about. 4; 9 not all read; 10 kind not 1 to 5;
  * 11 neither 0 nor 1; 12 not 25 bytes, or an ill-formed FASC-N; 13 the mode does not need it; 14 given already. */
 GATE_CHECKED uint8_t gate_verdict(gate_session *session, uint8_t kind, uint8_t yes, const uint8_t *fascn, size_t fascn_length);
 
 /* Writes the stamp that this verdict and then a stamp call would write, and leaves the session. Refused as gate_verdict, and then 6 out under 46 bytes. */
 GATE_CHECKED uint8_t gate_preview(const gate_session *session, uint8_t kind, uint8_t yes, const uint8_t *fascn, size_t fascn_length, uint8_t *out, size_t out_length);
 
-/* Where the value of a field lies in the object buffer: tag 30 FASC-N, 34 GUID, 35 expiry, 3E signature, BC fingers or picture, EE, 31, 32, 33 the older elements (hexadecimal). No number:
+/* Where the value of a field lies in the object buffer, whose bytes are not looked at. No number:
  * length 0 where the session is dead or out of range, the buffer has another size, the tag is another, or the field is not yet read or absent. */
 gate_place gate_field(const gate_session *session, const uint8_t *object, size_t object_length, uint8_t tag);
 
@@ -100,7 +108,7 @@ GATE_CHECKED uint8_t gate_unpack(const uint8_t *fascn, size_t fascn_length, uint
 /* The FASC-N of 32 digits. 19 a digit above 9. */
 GATE_CHECKED uint8_t gate_pack(const uint8_t digits[GATE_DIGITS], uint8_t fascn[GATE_FASCN_SIZE]);
 
-/* The key of a card, as cancelled lists hold it: its first 16 digits as one number. */
+/* The key of a card, as cancelled lists hold it: its first 16 digits as one number. No number: of bytes above 9 it gives the sum of their places too, and that is no card's key. */
 uint64_t gate_key(const uint8_t digits[GATE_DIGITS]);
 
 /* ---- lists */
