@@ -22,7 +22,7 @@ use Rattle.session.proofs.BytesLaws.{part-bytes}
 use Rattle.session.specs.declared.state.Session.{Session}
 use Rattle.session.specs.declared.state.Next.{Next}
 use Rattle.session.specs.declared.state.Next.the-variants.{Initial, GetResponse, InitialAgain, GetResponseAgain}
-use Rattle.host.specs.Image.{highFirst, fromHigh, partSize, partBytes, partsBytes, partIn, flagByte, nextKind, nextByte, nextIn, isNext, imageSize, imageVersion, smallBytes, segments, segmentSizes, segmentsIn, cutFrom, saveOf, sessionIn, formed, isImage, loadOf, PartFits, Fits}
+use Rattle.host.specs.Image.{highFirst, fromHigh, partSize, partBytes, partsBytes, partOfBytes, flagByte, nextKind, nextByte, nextIn, isNext, imageSize, imageVersion, smallBytes, segments, segmentSizes, segmentsIn, cutFrom, saveOf, sessionIn, formed, isImage, loadOf, PartFits, Fits}
 use Rattle.host.proofs.NumberLaws.{length-high, high-again, bytes-again}
 use Rattle.host.proofs.SegmentLaws.{Sized, none, more, total, length-joined, cut-again, join-again}
 
@@ -40,14 +40,14 @@ length-parts ps e = rw (by ps, e)
     by [] = refl
     by (q ∷ qs) = omega (arith, length-append (partBytes q) (concat (map partBytes qs)), length-part q, by qs)
 
-part-again : (p : Part) → PartFits p → partIn (partBytes p) ≡ p
-unfolding partIn partBytes
+part-again : (p : Part) → PartFits p → partOfBytes (partBytes p) ≡ p
+unfolding partOfBytes partBytes
 part-again p f =
     let a = highFirst 4 (p .start) in
     let b = highFirst 4 (p .len) in
     rw (take-at a b 4 (length-high 4 (p .start)), drop-at a b 4 (length-high 4 (p .start)), take-all 4 b (le-of-eq (length-high 4 (p .len))), high-again 4 (p .start) (f .start), high-again 4 (p .len) (f .len))
 
-parts-again : (ps : List Part) → ((i : ℕ) → i < length ps → PartFits (getD ps i empty)) → map partIn (map partBytes ps) ≡ ps
+parts-again : (ps : List Part) → ((i : ℕ) → i < length ps → PartFits (getD ps i empty)) → map partOfBytes (map partBytes ps) ≡ ps
 parts-again [] f = refl
 parts-again (p ∷ ps) f = ap₂ _∷_ (part-again p (f 0 (omega arith))) (parts-again ps (λ i h. f (suc i) (omega arith)))
 
@@ -119,8 +119,8 @@ cut-bytes b at n h f = bytes-again n (take n (drop at b)) (length-cut b at n h) 
 join-two : (l : List ℕ) → length l ≡ 8 → take 4 l ++ take 4 (drop 4 l) ≡ l
 join-two l e = ap (λ (x : List ℕ). take 4 l ++ x) (take-all 4 (drop 4 l) (omega (arith, length-drop 4 l))) ∙ take-append-drop 4 l
 
-part-bytes-again : (l : List ℕ) → length l ≡ 8 → Bytes l → partBytes (partIn l) ≡ l
-unfolding partBytes partIn
+part-bytes-again : (l : List ℕ) → length l ≡ 8 → Bytes l → partBytes (partOfBytes l) ≡ l
+unfolding partBytes partOfBytes
 part-bytes-again l e f = rw (cut-bytes l 0 4 (omega arith) f, cut-bytes l 4 4 (omega arith) f) (join-two l e)
 
 -- the byte of a flag, and the two of a next command
@@ -154,7 +154,7 @@ small-same l e h =
 segments-same : (b : List ℕ) → length b ≡ imageSize → Bytes b → isImage b ≡ true → segments (sessionIn (segmentsIn b)) ≡ segmentsIn b
 unfolding isImage segmentsIn cutFrom
 segments-same b e f h =
-    let p : (at : ℕ) → at + 8 ≤ length b → partBytes (partIn (take 8 (drop at b))) ≡ take 8 (drop at b) = λ at k. part-bytes-again (take 8 (drop at b)) (length-cut b at 8 k) (part-bytes 8 at b f) in
+    let p : (at : ℕ) → at + 8 ≤ length b → partBytes (partOfBytes (take 8 (drop at b))) ≡ take 8 (drop at b) = λ at k. part-bytes-again (take 8 (drop at b)) (length-cut b at 8 k) (part-bytes 8 at b f) in
     rw (
       small-same (take 9 (drop 0 b)) (length-cut b 0 9 (omega arith)) h,
       cut-bytes b 9 4 (omega arith) f,

@@ -38,8 +38,8 @@ partSize = 8
 unfoldable pub partBytes : Part → List ℕ
 partBytes p = highFirst 4 (p .start) ++ highFirst 4 (p .len)
 
-unfoldable pub partIn : List ℕ → Part
-partIn l = record { start = fromHigh 4 (take 4 l); len = fromHigh 4 (take 4 (drop 4 l)) }
+unfoldable pub partOfBytes : List ℕ → Part
+partOfBytes l = record { start = fromHigh 4 (take 4 l); len = fromHigh 4 (take 4 (drop 4 l)) }
 
 unfoldable pub partsBytes : List Part → List ℕ
 partsBytes ps = concat (map partBytes ps)
@@ -90,7 +90,7 @@ segments s =
     ∷ s .card .fascn
     ∷ (map partBytes (s .card .step1) ++ (partBytes (s .card .step2) ∷ []))
 
--- Their sizes: nine bytes of one byte each; two numbers of four bytes and two of eight; AID, outcomes and FASC-N; the parts.
+-- Their sizes: nine values of one byte each; two numbers of four bytes and two of eight; AID, outcomes and FASC-N; the parts.
 abbrev pub segmentSizes : List ℕ
 segmentSizes = 9 ∷ 4 ∷ 4 ∷ 8 ∷ 8 ∷ aidMost ∷ checks ∷ fascnBytes ∷ replicate (suc mostFields) partSize
 
@@ -135,8 +135,8 @@ cardIn l =
     record {
       fascn = getD l 7 [];
       expiry = fromHigh 4 (getD l 2 []);
-      step1 = map partIn (take mostFields (drop 8 l));
-      step2 = partIn (getD l 17 []);
+      step1 = map partOfBytes (take mostFields (drop 8 l));
+      step2 = partOfBytes (getD l 17 []);
     }
 
 abbrev pub sessionIn : List (List ℕ) → Session

@@ -20,7 +20,7 @@ ghost use mathlib.Core.List.{[], _++_};
 ghost use lib.ListN.{length, getD, take, drop};
 ghost use Rattle.common.specs.Lists.{overPlaces};
 ghost use Rattle.card.specs.Object.{mostFields};
-ghost use Rattle.host.specs.Image.{partBytes, partsBytes, partIn, PartFits, PartsFit, flagByte, nextKind, nextByte, nextIn, imageSize, segmentsIn, openingIn, progressIn, cardIn, sessionIn, isImage, loadOf, saveOf};
+ghost use Rattle.host.specs.Image.{partBytes, partsBytes, partOfBytes, PartFits, PartsFit, flagByte, nextKind, nextByte, nextIn, segmentsIn, openingIn, progressIn, cardIn, isImage, loadOf, saveOf};
 
 // The version of the layout; `imageVersion` in the definitions.
 pub const VERSION: u8 = 1;
@@ -136,7 +136,7 @@ fn put_parts(out: &mut [u8], at: usize, parts: [Part; FIELDS])
 
 fn part_at(s: &[u8], at: usize) -> Part
     requires { ⌜ at + 8 ≤ length (now s) ⌝ }
-    ensures { λ r. ⌜ r ≡ partIn (take 8 (drop at (now (s .entry)))) ⌝ }
+    ensures { λ r. ⌜ r ≡ partOfBytes (take 8 (drop at (now (s .entry)))) ⌝ }
 {
     Part {
         start: number::four_at(s, at),

@@ -14,12 +14,12 @@ use session::figures::OBJECT;
 use session::figures::STAMP;
 
 // The most bytes of a line, and of a piece of data that an answer has in the exchange with small answers.
-const LINE: usize = 512;
+const LINE_MOST: usize = 512;
 
 const PIECE: usize = 7;
 
 fn say(word: &[u8], numbers: &[u64], bytes: &[u8]) {
-    let mut out = [0u8; LINE];
+    let mut out = [0u8; LINE_MOST];
     let n = line::add_line(&mut out, word, numbers, bytes);
     io::write_all(1, slice::front(&out, n));
 }
