@@ -1,7 +1,7 @@
 -- Text written into a lent buffer after what stands there, texts one after another, and numbers as text.
 -- Assumes nothing.
 use Rattle.std.specs.Prelude.{◌≡◌, cond, List, [], ◌∷◌, ◌++◌, ℕ, zero, suc, ◌+◌, ◌/◌, ◌%◌, ltb, length, take}
-use Rattle.common.specs.Lists.{overFront}
+use Rattle.common.specs.Lists.{over_front}
 
 -- ---- a lent buffer
 
@@ -10,7 +10,7 @@ use Rattle.common.specs.Lists.{overFront}
 unfoldable pub added : List ℕ → ℕ → List ℕ → ℕ × List ℕ
 added l at s =
     let text = take (length l) (take at l ++ s) in
-    (length text, overFront text l)
+    (length text, over_front text l)
 
 -- What a function does that writes a text: it is lent the buffer before, answers with the count, and leaves the buffer
 -- after.
@@ -20,17 +20,17 @@ pub record Added (before : List ℕ) (at : ℕ) (after : List ℕ) (count : ℕ)
 -- ---- texts one after another
 
 -- f 0, f 1, .., f (n - 1)
-unfoldable pub textsOf : ℕ → (ℕ → List ℕ) → List ℕ
-textsOf zero f = []
-textsOf (suc n) f = textsOf n f ++ f n
+unfoldable pub texts_of : ℕ → (ℕ → List ℕ) → List ℕ
+texts_of zero f = []
+texts_of (suc n) f = texts_of n f ++ f n
 
 -- ---- numbers
 
 -- A number in decimal, without zeros in front: its last k digits where it has more.
-unfoldable pub decimalLast : ℕ → ℕ → List ℕ
-decimalLast zero n = []
-decimalLast (suc k) n = cond (ltb n 10) ((48 + n) ∷ []) (decimalLast k (n / 10) ++ ((48 + n % 10) ∷ []))
+unfoldable pub decimal_last : ℕ → ℕ → List ℕ
+decimal_last zero n = []
+decimal_last (suc k) n = cond (ltb n 10) ((48 + n) ∷ []) (decimal_last k (n / 10) ++ ((48 + n % 10) ∷ []))
 
 -- A number below 10 ^ 20, as every number of 64 bits is.
-unfoldable pub numberText : ℕ → List ℕ
-numberText n = decimalLast 20 n
+unfoldable pub number_text : ℕ → List ℕ
+number_text n = decimal_last 20 n

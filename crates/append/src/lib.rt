@@ -1,6 +1,6 @@
 // Text written into a lent buffer after what stands there: bytes, hexadecimal digits, and numbers in decimal.
-ghost use Rattle.text.specs.Hex.{hexOf};
-ghost use Rattle.append.specs.Append.{Added, numberText};
+ghost use Rattle.text.specs.Hex.{hex_of};
+ghost use Rattle.append.specs.Append.{Added, number_text};
 
 use common::{number, slice};
 use text::hex;
@@ -22,7 +22,7 @@ pub fn add(out: &mut [u8], at: usize, s: &[u8]) -> usize
 
 // The digits that spell the bytes s.
 pub fn add_hex(out: &mut [u8], at: usize, s: &[u8]) -> usize
-    ensures { Added out.old at out.new result (hexOf s.now) }
+    ensures { Added out.old at out.new result (hex_of s.now) }
 {
     if out.len() <= at {
         return out.len();
@@ -33,7 +33,7 @@ pub fn add_hex(out: &mut [u8], at: usize, s: &[u8]) -> usize
 
 // The number n in decimal.
 pub fn add_decimal(out: &mut [u8], at: usize, n: u64) -> usize
-    ensures { Added out.old at out.new result (numberText n) }
+    ensures { Added out.old at out.new result (number_text n) }
 {
     let mut digits = [0u8; DECIMAL];
     let k = io::decimal(n, &mut digits);

@@ -9,9 +9,9 @@ use borrow.Author.Tests.{leb-true, not-false, lt-ltb, le-ltb, ne_eqb}
 use lib.Dec.{leb}
 use lib.ListN.{length, get_or, set, length-set, length-append}
 use lib.Seq.{set-append_seam, get_or-set_other}
-use Rattle.common.specs.Lists.{overFront, all, sameBytes}
-use Rattle.card.specs.Object.{objectTag}
-use Rattle.card.specs.Command.{with_last, selectBeside, selectBytes, getDataBytes, getResponseBytes, commandWritten, commandInto, aidLeast, aidMost, aidRefused, selectOf, getDataOf, getResponseOf, statusOf}
+use Rattle.common.specs.Lists.{over_front, all, same_bytes}
+use Rattle.card.specs.Object.{object_tag}
+use Rattle.card.specs.Command.{with_last, select_beside, select_bytes, get_orata_bytes, get_response_bytes, command_written, command_into, aid_least, aid_most, aid_refused, select_of, get_orata_of, get_response_of, status_of}
 use Rattle.card.specs.declared.command.Status.TheVariants.{Other}
 use Rattle.card.specs.declared.object.Kind.{Kind}
 use Rattle.card.specs.declared.object.Kind.TheVariants.{Signed, Unsigned, Fingers, Picture}
@@ -19,34 +19,34 @@ use Rattle.card.specs.declared.object.Kind.TheVariants.{Signed, Unsigned, Finger
 -- ---- the lengths of the commands
 
 -- SELECT is the AID and six bytes more
-pub select-length : (aid : List ℕ) → length (selectBytes aid) ≡ length aid + selectBeside
-unfolding selectBytes
-select-length aid = rw length-append (omega arith)
+pub select_length : (aid : List ℕ) → length (select_bytes aid) ≡ length aid + select_beside
+unfolding select_bytes
+select_length aid = rw length-append (omega arith)
 
 -- a tag is three bytes
-pub tag-length : (k : Kind) → length (objectTag k) ≡ 3
-unfolding objectTag
-tag-length Signed = refl
-tag-length Unsigned = refl
-tag-length Fingers = refl
-tag-length Picture = refl
+pub tag_length : (k : Kind) → length (object_tag k) ≡ 3
+unfolding object_tag
+tag_length Signed = refl
+tag_length Unsigned = refl
+tag_length Fingers = refl
+tag_length Picture = refl
 
 -- GET DATA is eleven bytes
-pub get-data-length : (k : Kind) → length (getDataBytes k) ≡ 11
-unfolding getDataBytes
-get-data-length k = rw (length-append, tag-length)
+pub get_orata_length : (k : Kind) → length (get_orata_bytes k) ≡ 11
+unfolding get_orata_bytes
+get_orata_length k = rw (length-append, tag_length)
 
 -- GET RESPONSE is five bytes
-pub get-response-length : (x : ℕ) → length (getResponseBytes x) ≡ 5
-unfolding getResponseBytes
-get-response-length x = refl
+pub get_response_length : (x : ℕ) → length (get_response_bytes x) ≡ 5
+unfolding get_response_bytes
+get_response_length x = refl
 
 -- ---- the last byte
 
 -- the last byte is replaced, and the bytes before it stay
-pub with-last : (c : List ℕ) (x last : ℕ) → with_last (c ++ (x ∷ [])) last ≡ c ++ (last ∷ [])
+pub with_last_lem : (c : List ℕ) (x last : ℕ) → with_last (c ++ (x ∷ [])) last ≡ c ++ (last ∷ [])
 unfolding with_last
-with-last c x last =
+with_last_lem c x last =
     let n : length (c ++ (x ∷ [])) - 1 ≡ length c = rw length-append (omega arith) in
     rw n (set-append_seam c x [] last)
 
@@ -56,9 +56,9 @@ unfolding with_last
 before_last c last i h = get_or-set_other c (length c - 1) i last 0 (λ (e : i ≡ length c - 1). omega arith)
 
 -- the last byte replaced twice
-pub with-last-twice : (c : List ℕ) (a b : ℕ) → with_last (with_last c a) b ≡ with_last c b
+pub with_last_twice : (c : List ℕ) (a b : ℕ) → with_last (with_last c a) b ≡ with_last c b
 unfolding with_last
-with-last-twice c a b = rw length-set (twice c (length c - 1))
+with_last_twice c a b = rw length-set (twice c (length c - 1))
   where
     twice : (l : List ℕ) (i : ℕ) → set (set l i a) i b ≡ set l i b
     twice [] i = refl
@@ -70,73 +70,73 @@ unfolding with_last
 length_last c last = length-set c (length c - 1) last
 
 -- SELECT and GET DATA with another last byte
-pub select-last : (aid : List ℕ) (last : ℕ) → with_last (selectBytes aid) last ≡ (0x00 ∷ 0xA4 ∷ 0x04 ∷ 0x00 ∷ []) ++ (length aid ∷ []) ++ aid ++ (last ∷ [])
-unfolding selectBytes
-select-last aid last = with-last ((0x00 ∷ 0xA4 ∷ 0x04 ∷ 0x00 ∷ []) ++ (length aid ∷ []) ++ aid) 0x00 last
+pub select_last : (aid : List ℕ) (last : ℕ) → with_last (select_bytes aid) last ≡ (0x00 ∷ 0xA4 ∷ 0x04 ∷ 0x00 ∷ []) ++ (length aid ∷ []) ++ aid ++ (last ∷ [])
+unfolding select_bytes
+select_last aid last = with_last_lem ((0x00 ∷ 0xA4 ∷ 0x04 ∷ 0x00 ∷ []) ++ (length aid ∷ []) ++ aid) 0x00 last
 
-pub get-data-last : (k : Kind) (last : ℕ) → with_last (getDataBytes k) last ≡ (0x00 ∷ 0xCB ∷ 0x3F ∷ 0xFF ∷ 0x05 ∷ 0x5C ∷ 0x03 ∷ []) ++ objectTag k ++ (last ∷ [])
-unfolding getDataBytes
-get-data-last k last = with-last ((0x00 ∷ 0xCB ∷ 0x3F ∷ 0xFF ∷ 0x05 ∷ 0x5C ∷ 0x03 ∷ []) ++ objectTag k) 0x00 last
+pub get_orata_last : (k : Kind) (last : ℕ) → with_last (get_orata_bytes k) last ≡ (0x00 ∷ 0xCB ∷ 0x3F ∷ 0xFF ∷ 0x05 ∷ 0x5C ∷ 0x03 ∷ []) ++ object_tag k ++ (last ∷ [])
+unfolding get_orata_bytes
+get_orata_last k last = with_last_lem ((0x00 ∷ 0xCB ∷ 0x3F ∷ 0xFF ∷ 0x05 ∷ 0x5C ∷ 0x03 ∷ []) ++ object_tag k) 0x00 last
 
 -- with 00 they are as they were
-pub select-first : (aid : List ℕ) → with_last (selectBytes aid) 0x00 ≡ selectBytes aid
-unfolding selectBytes
-select-first aid = select-last aid 0x00
+pub select_first : (aid : List ℕ) → with_last (select_bytes aid) 0x00 ≡ select_bytes aid
+unfolding select_bytes
+select_first aid = select_last aid 0x00
 
-pub get-data-first : (k : Kind) → with_last (getDataBytes k) 0x00 ≡ getDataBytes k
-unfolding getDataBytes
-get-data-first k = get-data-last k 0x00
+pub get_orata_first : (k : Kind) → with_last (get_orata_bytes k) 0x00 ≡ get_orata_bytes k
+unfolding get_orata_bytes
+get_orata_first k = get_orata_last k 0x00
 
 -- GET RESPONSE with its last byte replaced is GET RESPONSE with that byte
-pub get-response-last : (second last : ℕ) → with_last (getResponseBytes second) last ≡ getResponseBytes last
-unfolding getResponseBytes with_last
-get-response-last second last = refl
+pub get_response_last : (second last : ℕ) → with_last (get_response_bytes second) last ≡ get_response_bytes last
+unfolding get_response_bytes with_last
+get_response_last second last = refl
 
 -- ---- status words
 
 -- two bytes that differ are not the same list
-first-other : (a x : ℕ) → (a ≡ x → ⊥) → sameBytes (a ∷ []) (x ∷ []) ≡ false
-unfolding sameBytes all
-first-other a x f = rw (ne_eqb a x f)
+first_other : (a x : ℕ) → (a ≡ x → ⊥) → same_bytes (a ∷ []) (x ∷ []) ≡ false
+unfolding same_bytes all
+first_other a x f = rw (ne_eqb a x f)
 
 -- a status word that is not 90 00 and begins with neither 61 nor 6C is another
-pub status-other : (a b : ℕ) → sameBytes (a ∷ b ∷ []) (0x90 ∷ 0x00 ∷ []) ≡ false → (a ≡ 0x61 → ⊥) → (a ≡ 0x6C → ⊥) → statusOf (a ∷ b ∷ []) ≡ Other
-unfolding statusOf
-status-other a b e f g = rw (e, first-other a 0x61 f, first-other a 0x6C g)
+pub status_other : (a b : ℕ) → same_bytes (a ∷ b ∷ []) (0x90 ∷ 0x00 ∷ []) ≡ false → (a ≡ 0x61 → ⊥) → (a ≡ 0x6C → ⊥) → status_of (a ∷ b ∷ []) ≡ Other
+unfolding status_of
+status_other a b e f g = rw (e, first_other a 0x61 f, first_other a 0x6C g)
 
 -- ---- the answer
 
 -- an AID that is not refused has no more than the most bytes
-pub aid-most : (aid : List ℕ) → aidRefused aid ≡ false → length aid ≤ aidMost
-aid-most aid e = leb-true (length aid) aidMost ((and-eq-true_iff (leb aidLeast (length aid)) (leb (length aid) aidMost)).0 (not-false _ e)).1
+pub aid_most_lem : (aid : List ℕ) → aid_refused aid ≡ false → length aid ≤ aid_most
+aid_most_lem aid e = leb-true (length aid) aid_most ((and-eq-true_iff (leb aid_least (length aid)) (leb (length aid) aid_most)).0 (not-false _ e)).1
 
 -- a command that fits stands in front of the buffer
-pub command-fits : (c out : List ℕ) {k : ℕ} {m : List ℕ} → length c ≤ length out → k ≡ length c → m ≡ overFront c out
-    → ((0, k), m) ≡ commandInto c out
-unfolding commandWritten
-command-fits c out h e f = rw (le-ltb _ _ h, e, f)
+pub command_fits : (c out : List ℕ) {k : ℕ} {m : List ℕ} → length c ≤ length out → k ≡ length c → m ≡ over_front c out
+    → ((0, k), m) ≡ command_into c out
+unfolding command_written
+command_fits c out h e f = rw (le-ltb _ _ h, e, f)
 
 -- one that does not is refused
-pub command-short : (c out : List ℕ) → length out < length c → ((6, 0), out) ≡ commandInto c out
-unfolding commandWritten
-command-short c out h = rw (lt-ltb _ _ h)
+pub command_short : (c out : List ℕ) → length out < length c → ((6, 0), out) ≡ command_into c out
+unfolding command_written
+command_short c out h = rw (lt-ltb _ _ h)
 
 -- a refused one leaves the buffer as it was
-pub refused-same : (n : ℕ) (c out : List ℕ) → ((commandWritten n c out).0.0 ≡ 0 → ⊥) → (commandWritten n c out).1 ≡ out
-unfolding commandWritten
-refused-same n c out h = rw (ne_eqb n 0 (λ (e : n ≡ 0). h (rw e)))
+pub refused_same : (n : ℕ) (c out : List ℕ) → ((command_written n c out).0.0 ≡ 0 → ⊥) → (command_written n c out).1 ≡ out
+unfolding command_written
+refused_same n c out h = rw (ne_eqb n 0 (λ (e : n ≡ 0). h (rw e)))
 
 -- the same of SELECT
-pub select-refused : (aid out : List ℕ) (last : ℕ) → ((selectOf aid last out).0.0 ≡ 0 → ⊥) → (selectOf aid last out).1 ≡ out
-unfolding selectOf
-select-refused aid out last h = refused-same _ (with_last (selectBytes aid) last) out h
+pub select_refused : (aid out : List ℕ) (last : ℕ) → ((select_of aid last out).0.0 ≡ 0 → ⊥) → (select_of aid last out).1 ≡ out
+unfolding select_of
+select_refused aid out last h = refused_same _ (with_last (select_bytes aid) last) out h
 
 -- the same of GET DATA
-pub get-data-refused : (k : Kind) (last : ℕ) (out : List ℕ) → ((getDataOf k last out).0.0 ≡ 0 → ⊥) → (getDataOf k last out).1 ≡ out
-unfolding getDataOf
-get-data-refused k last out h = refused-same _ (with_last (getDataBytes k) last) out h
+pub get_orata_refused : (k : Kind) (last : ℕ) (out : List ℕ) → ((get_orata_of k last out).0.0 ≡ 0 → ⊥) → (get_orata_of k last out).1 ≡ out
+unfolding get_orata_of
+get_orata_refused k last out h = refused_same _ (with_last (get_orata_bytes k) last) out h
 
 -- the same of GET RESPONSE
-pub get-response-refused : (x : ℕ) (out : List ℕ) → ((getResponseOf x out).0.0 ≡ 0 → ⊥) → (getResponseOf x out).1 ≡ out
-unfolding getResponseOf
-get-response-refused x out h = refused-same _ (getResponseBytes x) out h
+pub get_response_refused : (x : ℕ) (out : List ℕ) → ((get_response_of x out).0.0 ≡ 0 → ⊥) → (get_response_of x out).1 ≡ out
+unfolding get_response_of
+get_response_refused x out h = refused_same _ (get_response_bytes x) out h

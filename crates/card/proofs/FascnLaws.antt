@@ -10,81 +10,81 @@ use borrow.Author.Tests.{eqb-true, leb-true, eq-eqb}
 use lib.Dec.{eqb}
 use lib.ListN.{length, get_or}
 use Rattle.common.specs.Lists.{all}
-use Rattle.common.specs.Refusal.{refusalOf}
-use Rattle.card.specs.Fascn.{charBitAt, value_at, oddAt, ByRule, valuesIn, bytes_of, digitsIn, marksIn, decimalAt, checkValue, values_of, unpackRefusal, unpackAnswer, unpackOf, packRefusal, packOf, keyOf, unpackNumber}
-use Rattle.card.specs.FascnCode.{checkDigits}
+use Rattle.common.specs.Refusal.{refusal_of}
+use Rattle.card.specs.Fascn.{char_bit_at, value_at, odd_at, ByRule, values_in, bytes_of, digits_in, marks_in, decimal_at, check_value, values_of, unpack_refusal, unpack_answer, unpack_of, pack_refusal, pack_of, key_of, unpack_number}
+use Rattle.card.specs.FascnCode.{check_digits}
 use Rattle.card.specs.declared.fascn.UnpackAnswer.{UnpackAnswer}
 use Rattle.card.specs.declared.fascn.UnpackAnswer.TheVariants as unpack-answers
-use Rattle.common.proofs.ListsLaws.{all-at, length-listOf, getD-listOf, listOf-is}
+use Rattle.common.proofs.ListsLaws.{all_at, length-list_of, get_or_list_of, list_of_is}
 use Rattle.common.proofs.NumberLaws.{number_lt}
-use Rattle.card.proofs.CharacterLaws.{odd-by-rule, bytes-by-rule, values-bytes, odd-bytes, bytes-values}
-use Rattle.card.proofs.OrderLaws.{marks-values, digits-values, value-check, length-valuesOf, values-small, check-digits, values-digits}
+use Rattle.card.proofs.CharacterLaws.{odd_by_rule, bytes_by_rule, values_bytes, odd_bytes, bytes_values}
+use Rattle.card.proofs.OrderLaws.{marks_values, digits_values, value_check, length-values_of, values_small, check_digits_lem, values_digits}
 
-length-values : (s : List ℕ) → length (valuesIn s) ≡ 40
-unfolding valuesIn
-length-values s = length-listOf 40 (value_at s)
+length_values : (s : List ℕ) → length (values_in s) ≡ 40
+unfolding values_in
+length_values s = length-list_of 40 (value_at s)
 
-pub length-bytesOf : (v : List ℕ) → length (bytes_of v) ≡ 25
+pub length-bytes_of : (v : List ℕ) → length (bytes_of v) ≡ 25
 unfolding bytes_of
-length-bytesOf v = length-listOf 25 _
+length-bytes_of v = length-list_of 25 _
 
 -- what unpack answers for 25 bytes, the check value taken of the digits
 abbrev pub by_digits : List ℕ → ℕ × List ℕ
 by_digits s =
-    unpackAnswer
-    (refusalOf
-    ((16, not (all 40 (oddAt s)))
-    ∷ (17, not (marksIn (valuesIn s) && all 32 (decimalAt (digitsIn (valuesIn s)))))
-    ∷ (18, not (eqb (get_or (valuesIn s) 39 0) (checkDigits (digitsIn (valuesIn s)))))
+    unpack_answer
+    (refusal_of
+    ((16, not (all 40 (odd_at s)))
+    ∷ (17, not (marks_in (values_in s) && all 32 (decimal_at (digits_in (values_in s)))))
+    ∷ (18, not (eqb (get_or (values_in s) 39 0) (check_digits (digits_in (values_in s)))))
     ∷ []))
-    (digitsIn (valuesIn s))
+    (digits_in (values_in s))
 
 -- it may be: where a mark is out of place, 17 is the answer whatever the check value is
-pub unpack-is : (s : List ℕ) → length s ≡ 25 → by_digits s ≡ unpackOf s
-unfolding unpackOf unpackRefusal
-unpack-is s e = go (marksIn (valuesIn s)) refl
+pub unpack_is : (s : List ℕ) → length s ≡ 25 → by_digits s ≡ unpack_of s
+unfolding unpack_of unpack_refusal
+unpack_is s e = go (marks_in (values_in s)) refl
   where
-    go : (m : Bool) → marksIn (valuesIn s) ≡ m → by_digits s ≡ unpackOf s
-    go true p = rw (eq-eqb _ _ e, check-digits (valuesIn s) (length-values s) p)
+    go : (m : Bool) → marks_in (values_in s) ≡ m → by_digits s ≡ unpack_of s
+    go true p = rw (eq-eqb _ _ e, check_digits_lem (values_in s) (length_values s) p)
     go false p = rw (eq-eqb _ _ e, p)
 
 -- ---- what unpack answers
 
 -- an answer's number says its case
-unpackCase : ℕ → UnpackAnswer
-unpackCase n =
+unpack_case : ℕ → UnpackAnswer
+unpack_case n =
     cond (eqb n 0) unpack-answers.Accepted
     (cond (eqb n 15) unpack-answers.WrongLength (cond (eqb n 16) unpack-answers.WrongParity (cond (eqb n 17) unpack-answers.OutOfPlace unpack-answers.WrongCheck)))
 
-case-is : (a : UnpackAnswer) → unpackCase (unpackNumber a) ≡ a
-unfolding unpackCase
-case-is unpack-answers.Accepted = refl
-case-is unpack-answers.WrongLength = refl
-case-is unpack-answers.WrongParity = refl
-case-is unpack-answers.OutOfPlace = refl
-case-is unpack-answers.WrongCheck = refl
+case_is : (a : UnpackAnswer) → unpack_case (unpack_number a) ≡ a
+unfolding unpack_case
+case_is unpack-answers.Accepted = refl
+case_is unpack-answers.WrongLength = refl
+case_is unpack-answers.WrongParity = refl
+case_is unpack-answers.OutOfPlace = refl
+case_is unpack-answers.WrongCheck = refl
 
-pub unpack-case : (a b : UnpackAnswer) → unpackNumber a ≡ unpackNumber b → a ≡ b
-unpack-case a b e = sym (case-is a) ∙ ap unpackCase e ∙ case-is b
+pub unpack_case_lem : (a b : UnpackAnswer) → unpack_number a ≡ unpack_number b → a ≡ b
+unpack_case_lem a b e = sym (case_is a) ∙ ap unpack_case e ∙ case_is b
 
 -- ---- what an accepted FASC-N passed
 
 pub record WellFormed (s : List ℕ) : Type 0 where
   pub long : length s ≡ 25
-  pub odd : all 40 (oddAt s) ≡ true
-  pub placed : marksIn (valuesIn s) ≡ true
-  pub decimal : all 32 (decimalAt (digitsIn (valuesIn s))) ≡ true
-  pub check : get_or (valuesIn s) 39 0 ≡ checkValue (valuesIn s)
+  pub odd : all 40 (odd_at s) ≡ true
+  pub placed : marks_in (values_in s) ≡ true
+  pub decimal : all 32 (decimal_at (digits_in (values_in s))) ≡ true
+  pub check : get_or (values_in s) 39 0 ≡ check_value (values_in s)
 
-pub well-formed : (s : List ℕ) → (unpackOf s).0 ≡ 0 → WellFormed s
-unfolding unpackOf unpackRefusal
-well-formed s p =
-    go (eqb (length s) 25) (all 40 (oddAt s)) (marksIn (valuesIn s)) (all 32 (decimalAt (digitsIn (valuesIn s)))) (eqb (get_or (valuesIn s) 39 0) (checkValue (valuesIn s)))
+pub well_formed_lem : (s : List ℕ) → (unpack_of s).0 ≡ 0 → WellFormed s
+unfolding unpack_of unpack_refusal
+well_formed_lem s p =
+    go (eqb (length s) 25) (all 40 (odd_at s)) (marks_in (values_in s)) (all 32 (decimal_at (digits_in (values_in s)))) (eqb (get_or (values_in s) 39 0) (check_value (values_in s)))
     refl refl refl refl refl p
   where
-    go : (a b c d e : Bool) → eqb (length s) 25 ≡ a → all 40 (oddAt s) ≡ b → marksIn (valuesIn s) ≡ c → all 32 (decimalAt (digitsIn (valuesIn s))) ≡ d
-        → eqb (get_or (valuesIn s) 39 0) (checkValue (valuesIn s)) ≡ e
-        → refusalOf ((15, not a) ∷ (16, not b) ∷ (17, not (c && d)) ∷ (18, not e) ∷ []) ≡ 0 → WellFormed s
+    go : (a b c d e : Bool) → eqb (length s) 25 ≡ a → all 40 (odd_at s) ≡ b → marks_in (values_in s) ≡ c → all 32 (decimal_at (digits_in (values_in s))) ≡ d
+        → eqb (get_or (values_in s) 39 0) (check_value (values_in s)) ≡ e
+        → refusal_of ((15, not a) ∷ (16, not b) ∷ (17, not (c && d)) ∷ (18, not e) ∷ []) ≡ 0 → WellFormed s
     go true true true true true pa pb pc pd pe q = record { long = eqb-true _ _ pa; odd = pb; placed = pc; decimal = pd; check = eqb-true _ _ pe }
     go true true true true false pa pb pc pd pe q = absurd (omega arith)
     go true true true false e pa pb pc pd pe q = absurd (omega arith)
@@ -93,62 +93,62 @@ well-formed s p =
     go false b c d e pa pb pc pd pe q = absurd (omega arith)
 
 -- the digits that an accepted FASC-N unpacks to
-pub unpack-digits : (s : List ℕ) → (unpackOf s).0 ≡ 0 → (unpackOf s).1 ≡ digitsIn (valuesIn s)
-unfolding unpackOf
-unpack-digits s p = rw (eq-eqb _ _ p)
+pub unpack_digits : (s : List ℕ) → (unpack_of s).0 ≡ 0 → (unpack_of s).1 ≡ digits_in (values_in s)
+unfolding unpack_of
+unpack_digits s p = rw (eq-eqb _ _ p)
 
 -- ---- the rule of a character
 
 -- each character of a FASC-N packed from digits of at most 9 follows it, with the value that stands there
-pub packed-by-rule : (d : List ℕ) → all 32 (decimalAt d) ≡ true → (i : ℕ) → i < 40 → ByRule (get_or (values_of d) i 0) (charBitAt (packOf d).1 i)
-unfolding packOf packRefusal
-packed-by-rule d h i l = rw h (bytes-by-rule (values_of d) (values-small d h) i l)
+pub packed_by_rule : (d : List ℕ) → all 32 (decimal_at d) ≡ true → (i : ℕ) → i < 40 → ByRule (get_or (values_of d) i 0) (char_bit_at (pack_of d).1 i)
+unfolding pack_of pack_refusal
+packed_by_rule d h i l = rw h (bytes_by_rule (values_of d) (values_small d h) i l)
 
 -- and so does each of a FASC-N that unpacks
-pub unpacked-by-rule : (s : List ℕ) → (unpackOf s).0 ≡ 0 → (i : ℕ) → i < 40 → ByRule (get_or (valuesIn s) i 0) (charBitAt s i)
-unfolding valuesIn
-unpacked-by-rule s p i l = rw (getD-listOf 40 (value_at s) i l) (odd-by-rule s i (all-at (oddAt s) 40 (well-formed s p).odd i l))
+pub unpacked_by_rule : (s : List ℕ) → (unpack_of s).0 ≡ 0 → (i : ℕ) → i < 40 → ByRule (get_or (values_in s) i 0) (char_bit_at s i)
+unfolding values_in
+unpacked_by_rule s p i l = rw (get_or_list_of 40 (value_at s) i l) (odd_by_rule s i (all_at (odd_at s) 40 (well_formed_lem s p).odd i l))
 
 -- ---- the two round trips
 
 -- packed from 32 digits, it unpacks to those digits
-pub pack-unpack : (d : List ℕ) → length d ≡ 32 → all 32 (decimalAt d) ≡ true → unpackOf (packOf d).1 ≡ (0, d)
-unfolding packOf packRefusal unpackOf unpackRefusal
-pack-unpack d n h =
-    let small = values-small d h in
-    let v : valuesIn (bytes_of (values_of d)) ≡ values_of d = values-bytes (values_of d) small ∙ listOf-is 40 _ (values_of d) (length-valuesOf d) (λ i l. refl) in
-    rw (h, eq-eqb _ _ (length-bytesOf (values_of d)), odd-bytes (values_of d) small, v, marks-values d, digits-values d n, h, eq-eqb _ _ (value-check d))
+pub pack_unpack : (d : List ℕ) → length d ≡ 32 → all 32 (decimal_at d) ≡ true → unpack_of (pack_of d).1 ≡ (0, d)
+unfolding pack_of pack_refusal unpack_of unpack_refusal
+pack_unpack d n h =
+    let small = values_small d h in
+    let v : values_in (bytes_of (values_of d)) ≡ values_of d = values_bytes (values_of d) small ∙ list_of_is 40 _ (values_of d) (length-values_of d) (λ i l. refl) in
+    rw (h, eq-eqb _ _ (length-bytes_of (values_of d)), odd_bytes (values_of d) small, v, marks_values d, digits_values d n, h, eq-eqb _ _ (value_check d))
 
 -- a FASC-N that unpacks packs to the same 25 bytes
-pub unpack-pack : (s : List ℕ) → ((k : ℕ) → k < 25 → get_or s k 0 < 256) → (unpackOf s).0 ≡ 0 → packOf (unpackOf s).1 ≡ (0, s)
-unfolding packOf packRefusal
-unpack-pack s b p =
-    let w = well-formed s p in
+pub unpack_pack : (s : List ℕ) → ((k : ℕ) → k < 25 → get_or s k 0 < 256) → (unpack_of s).0 ≡ 0 → pack_of (unpack_of s).1 ≡ (0, s)
+unfolding pack_of pack_refusal
+unpack_pack s b p =
+    let w = well_formed_lem s p in
     rw (
-      unpack-digits s p,
+      unpack_digits s p,
       w.decimal,
-      values-digits (valuesIn s) (length-values s) w.placed w.check,
-      bytes-values s w.odd w.long b,
+      values_digits (values_in s) (length_values s) w.placed w.check,
+      bytes_values s w.odd w.long b,
     )
 
 -- pack is injective on digits
-pub pack-injective : (d e : List ℕ) → length d ≡ 32 → length e ≡ 32 → all 32 (decimalAt d) ≡ true → all 32 (decimalAt e) ≡ true
-    → (packOf d).1 ≡ (packOf e).1 → d ≡ e
-pack-injective d e n m h k p =
-    ap (λ (r : ℕ × List ℕ). r.1) (sym (pack-unpack d n h) ∙ ap unpackOf p ∙ pack-unpack e m k)
+pub pack_injective : (d e : List ℕ) → length d ≡ 32 → length e ≡ 32 → all 32 (decimal_at d) ≡ true → all 32 (decimal_at e) ≡ true
+    → (pack_of d).1 ≡ (pack_of e).1 → d ≡ e
+pack_injective d e n m h k p =
+    ap (λ (r : ℕ × List ℕ). r.1) (sym (pack_unpack d n h) ∙ ap unpack_of p ∙ pack_unpack e m k)
 
 -- two FASC-Ns that unpack to the same digits are the same bytes
-pub unpack-injective : (s t : List ℕ) → ((k : ℕ) → k < 25 → get_or s k 0 < 256) → ((k : ℕ) → k < 25 → get_or t k 0 < 256)
-    → (unpackOf s).0 ≡ 0 → (unpackOf t).0 ≡ 0 → (unpackOf s).1 ≡ (unpackOf t).1 → s ≡ t
-unpack-injective s t bs bt p q e =
-    ap (λ (r : ℕ × List ℕ). r.1) (sym (unpack-pack s bs p) ∙ ap packOf e ∙ unpack-pack t bt q)
+pub unpack_injective : (s t : List ℕ) → ((k : ℕ) → k < 25 → get_or s k 0 < 256) → ((k : ℕ) → k < 25 → get_or t k 0 < 256)
+    → (unpack_of s).0 ≡ 0 → (unpack_of t).0 ≡ 0 → (unpack_of s).1 ≡ (unpack_of t).1 → s ≡ t
+unpack_injective s t bs bt p q e =
+    ap (λ (r : ℕ × List ℕ). r.1) (sym (unpack_pack s bs p) ∙ ap pack_of e ∙ unpack_pack t bt q)
 
 -- ---- the key
 
 -- the key of unpacked digits is below 10 ^ 16
-pub key-lt : (s : List ℕ) → (unpackOf s).0 ≡ 0 → keyOf (unpackOf s).1 < 10 ^ 16
-unfolding keyOf decimalAt
-key-lt s p =
-    rw (unpack-digits s p)
-    (number_lt 10 16 (λ k. get_or (digitsIn (valuesIn s)) k 0)
-    (λ k h. omega (arith, leb-true (get_or (digitsIn (valuesIn s)) k 0) 9 (all-at (decimalAt (digitsIn (valuesIn s))) 32 (well-formed s p).decimal k (omega arith)))))
+pub key_lt : (s : List ℕ) → (unpack_of s).0 ≡ 0 → key_of (unpack_of s).1 < 10 ^ 16
+unfolding key_of decimal_at
+key_lt s p =
+    rw (unpack_digits s p)
+    (number_lt 10 16 (λ k. get_or (digits_in (values_in s)) k 0)
+    (λ k h. omega (arith, leb-true (get_or (digits_in (values_in s)) k 0) 9 (all_at (decimal_at (digits_in (values_in s))) 32 (well_formed_lem s p).decimal k (omega arith)))))

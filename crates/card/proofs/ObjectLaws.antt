@@ -11,8 +11,8 @@ use borrow.Author.Tests.{leb-true, eqb-true}
 use lib.Dec.{eqb, leb}
 use lib.ListN.{length, take, drop, replicate, length-drop}
 use lib.Seq.{take-append-le, drop-append-le}
-use Rattle.card.specs.Tlv.{headerOf, onlyOf}
-use Rattle.card.specs.Object.{dataObjectTag, fascnTag, guidTag, expiryTag, signatureTag, biometricTag, mostFields, required, optional, empty, rows_of, rowField, fieldsFrom, fieldsAnswer, objectFrom, objectOf, partIn, bytes_at, fieldPart, fieldValue, allowed, row_in}
+use Rattle.card.specs.Tlv.{header_of, only_of}
+use Rattle.card.specs.Object.{data_object_tag, fascn_tag, guid_tag, expiry_tag, signature_tag, biometric_tag, most_fields, required, optional, empty, rows_of, row_field, fields_from, fields_answer, object_from, object_of, part_in, bytes_at, field_part, field_value, allowed, row_in}
 use Rattle.card.specs.declared.tlv.Header.{Header}
 use Rattle.card.specs.declared.tlv.Header.TheVariants.{Whole, Malformed}
 use Rattle.card.specs.declared.object.Kind.{Kind}
@@ -20,8 +20,8 @@ use Rattle.card.specs.declared.object.Kind.TheVariants.{Signed, Unsigned, Finger
 use Rattle.card.specs.declared.object.Row.{Row}
 use Rattle.card.specs.declared.object.Part.{Part}
 use Rattle.card.specs.declared.object.Field.{Field}
-use Rattle.card.proofs.TlvLaws.{place_inside, value-length, header-start, only-is}
-use Rattle.card.proofs.FieldLaws.{field-cases}
+use Rattle.card.proofs.TlvLaws.{place_inside, value_length, header_start, only_is}
+use Rattle.card.proofs.FieldLaws.{field_cases}
 
 -- ---- where the parts lie
 
@@ -34,67 +34,67 @@ AllInside n [] = Unit
 AllInside n (p ∷ ps) = Inside n p × AllInside n ps
 
 -- a field's part lies within the whole, and the next place within the value
-field-inside : (v : List ℕ) (base : ℕ) (r : Row) (at : ℕ) → at ≤ length v
-    → Inside (base + length v) (rowField v base r at).part × ((rowField v base r at).next ≤ length v)
-field-inside v base r at h =
-    field-cases v base r at (λ (f : Field). Inside (base + length v) f.part × (f.next ≤ length v)) (omega arith, h)
+field_inside : (v : List ℕ) (base : ℕ) (r : Row) (at : ℕ) → at ≤ length v
+    → Inside (base + length v) (row_field v base r at).part × ((row_field v base r at).next ≤ length v)
+field_inside v base r at h =
+    field_cases v base r at (λ (f : Field). Inside (base + length v) f.part × (f.next ≤ length v)) (omega arith, h)
     (λ tag start len nested e k. let i = place_inside v at e h in (omega arith, i))
 
 -- the same of the fields of the rows from a place on
-fields-inside : (v : List ℕ) (base : ℕ) (rs : List Row) (at : ℕ) → at ≤ length v → AllInside (base + length v) (fieldsFrom v base rs at).1
-unfolding fieldsFrom
-fields-inside v base [] at h = tt
-fields-inside v base (r ∷ rs) at h = let i = field-inside v base r at h in (i.0, fields-inside v base rs (rowField v base r at).next i.1)
+fields_inside : (v : List ℕ) (base : ℕ) (rs : List Row) (at : ℕ) → at ≤ length v → AllInside (base + length v) (fields_from v base rs at).1
+unfolding fields_from
+fields_inside v base [] at h = tt
+fields_inside v base (r ∷ rs) at h = let i = field_inside v base r at h in (i.0, fields_inside v base rs (row_field v base r at).next i.1)
 
 -- two lists of such parts make one
-inside-append : (n : ℕ) (ps qs : List Part) → AllInside n ps → AllInside n qs → AllInside n (ps ++ qs)
-inside-append n [] qs i j = j
-inside-append n (p ∷ ps) qs i j = (i.0, inside-append n ps qs i.1 j)
+inside_append : (n : ℕ) (ps qs : List Part) → AllInside n ps → AllInside n qs → AllInside n (ps ++ qs)
+inside_append n [] qs i j = j
+inside_append n (p ∷ ps) qs i j = (i.0, inside_append n ps qs i.1 j)
 
 -- empty parts lie within any bytes
-inside-empty : (m n : ℕ) → AllInside n (replicate m empty)
-inside-empty zero n = tt
-inside-empty (suc m) n = (omega arith, inside-empty m n)
+inside_empty : (m n : ℕ) → AllInside n (replicate m empty)
+inside_empty zero n = tt
+inside_empty (suc m) n = (omega arith, inside_empty m n)
 
 -- the answer adds empty parts, or has only such
-answer-inside : (n : ℕ) (ok : Bool) (ps : List Part) → AllInside n ps → AllInside n (fieldsAnswer (ok, ps)).1
-unfolding fieldsAnswer
-answer-inside n true ps i = inside-append n ps (replicate (mostFields - length ps) empty) i (inside-empty (mostFields - length ps) n)
-answer-inside n false ps i = inside-empty mostFields n
+answer_inside : (n : ℕ) (ok : Bool) (ps : List Part) → AllInside n ps → AllInside n (fields_answer (ok, ps)).1
+unfolding fields_answer
+answer_inside n true ps i = inside_append n ps (replicate (most_fields - length ps) empty) i (inside_empty (most_fields - length ps) n)
+answer_inside n false ps i = inside_empty most_fields n
 
 -- the value of the one TLV that a list is ends where the list ends
-value-end : (s : List ℕ) {tag start len : ℕ} {nested : Bool} → Whole tag nested start len ≡ onlyOf dataObjectTag s → start + length (take len (drop start s)) ≡ length s
-value-end s e =
-    let i = only-is dataObjectTag s e in
-    omega (arith, i.2, value-length s i.0)
+value_end : (s : List ℕ) {tag start len : ℕ} {nested : Bool} → Whole tag nested start len ≡ only_of data_object_tag s → start + length (take len (drop start s)) ≡ length s
+value_end s e =
+    let i = only_is data_object_tag s e in
+    omega (arith, i.2, value_length s i.0)
 
 -- every part of an object lies within it, of a malformed one too: there they are empty
-pub parts-inside : (k : Kind) (s : List ℕ) → AllInside (length s) (objectOf k s).1
-unfolding objectOf objectFrom fieldsAnswer
-parts-inside k s = by-header (onlyOf dataObjectTag s) refl
+pub parts_inside_lem : (k : Kind) (s : List ℕ) → AllInside (length s) (object_of k s).1
+unfolding object_of object_from fields_answer
+parts_inside_lem k s = by_header (only_of data_object_tag s) refl
   where
-    by-header : (h : Header) → h ≡ onlyOf dataObjectTag s → AllInside (length s) (objectFrom h k s).1
-    by-header Malformed e = inside-empty mostFields (length s)
-    by-header (Whole tag nested start len) e =
+    by_header : (h : Header) → h ≡ only_of data_object_tag s → AllInside (length s) (object_from h k s).1
+    by_header Malformed e = inside_empty most_fields (length s)
+    by_header (Whole tag nested start len) e =
         let v = take len (drop start s) in
-        let f = fieldsFrom v start (rows_of k) 0 in
-        subst (λ (n : ℕ). AllInside n (fieldsAnswer f).1) (value-end s e)
-        (answer-inside (start + length v) f.0 f.1 (fields-inside v start (rows_of k) 0 (omega arith)))
+        let f = fields_from v start (rows_of k) 0 in
+        subst (λ (n : ℕ). AllInside n (fields_answer f).1) (value_end s e)
+        (answer_inside (start + length v) f.0 f.1 (fields_inside v start (rows_of k) 0 (omega arith)))
 
 -- and so does the part of the field with a tag
-part-inside-of : (n : ℕ) (rs : List Row) (ps : List Part) (tag : ℕ) → AllInside n ps → Inside n (partIn rs ps tag)
-unfolding partIn
-part-inside-of n [] ps tag i = omega arith
-part-inside-of n (r ∷ rs) [] tag i = omega arith
-part-inside-of n (r ∷ rs) (p ∷ ps) tag i = by-tag (eqb r.0 tag) (part-inside-of n rs ps tag i.1)
+part_inside_of : (n : ℕ) (rs : List Row) (ps : List Part) (tag : ℕ) → AllInside n ps → Inside n (part_in rs ps tag)
+unfolding part_in
+part_inside_of n [] ps tag i = omega arith
+part_inside_of n (r ∷ rs) [] tag i = omega arith
+part_inside_of n (r ∷ rs) (p ∷ ps) tag i = by_tag (eqb r.0 tag) (part_inside_of n rs ps tag i.1)
   where
-    by-tag : (k : Bool) → Inside n (partIn rs ps tag) → Inside n (cond k p (partIn rs ps tag))
-    by-tag true later = i.0
-    by-tag false later = later
+    by_tag : (k : Bool) → Inside n (part_in rs ps tag) → Inside n (cond k p (part_in rs ps tag))
+    by_tag true later = i.0
+    by_tag false later = later
 
 -- in an object
-pub part-inside : (k : Kind) (s : List ℕ) (tag : ℕ) → Inside (length s) (fieldPart k tag s)
-part-inside k s tag = part-inside-of (length s) (rows_of k) (objectOf k s).1 tag (parts-inside k s)
+pub part_inside_lem : (k : Kind) (s : List ℕ) (tag : ℕ) → Inside (length s) (field_part k tag s)
+part_inside_lem k s tag = part_inside_of (length s) (rows_of k) (object_of k s).1 tag (parts_inside_lem k s)
 
 -- ---- what stands after an object
 
@@ -105,9 +105,9 @@ bytes_after s after p i =
     rw (drop-append-le p.start s after (omega arith), take-append-le p.len (drop p.start s) after (omega (arith, length-drop p.start s)))
 
 -- so a field's value stays what it is
-pub field-after : (k : Kind) (tag : ℕ) (s after : List ℕ) → bytes_at (s ++ after) (fieldPart k tag s) ≡ fieldValue k tag s
-unfolding fieldValue
-field-after k tag s after = bytes_after s after (fieldPart k tag s) (part-inside k s tag)
+pub field_after : (k : Kind) (tag : ℕ) (s after : List ℕ) → bytes_at (s ++ after) (field_part k tag s) ≡ field_value k tag s
+unfolding field_value
+field_after k tag s after = bytes_after s after (field_part k tag s) (part_inside_lem k s tag)
 
 -- ---- the lengths of the fields of a good object
 
@@ -116,28 +116,28 @@ pub record Good (k : Kind) (s : List ℕ) : Type 0 where
   pub nested : Bool
   pub start : ℕ
   pub len : ℕ
-  pub whole : Whole dataObjectTag nested start len ≡ headerOf s
+  pub whole : Whole data_object_tag nested start len ≡ header_of s
   pub ends : start + len ≡ length s
-  pub fields : (fieldsFrom (take len (drop start s)) start (rows_of k) 0).0 ≡ true
+  pub fields : (fields_from (take len (drop start s)) start (rows_of k) 0).0 ≡ true
   pub filler : List Part
-  pub parts : (objectOf k s).1 ≡ (fieldsFrom (take len (drop start s)) start (rows_of k) 0).1 ++ filler
+  pub parts : (object_of k s).1 ≡ (fields_from (take len (drop start s)) start (rows_of k) 0).1 ++ filler
 
 -- an answer with cause 0 has the parts that were read
-answered : (ok : Bool) (ps : List Part) → (fieldsAnswer (ok, ps)).0 ≡ 0 → (ok ≡ true) × ((fieldsAnswer (ok, ps)).1 ≡ ps ++ replicate (mostFields - length ps) empty)
-unfolding fieldsAnswer
+answered : (ok : Bool) (ps : List Part) → (fields_answer (ok, ps)).0 ≡ 0 → (ok ≡ true) × ((fields_answer (ok, ps)).1 ≡ ps ++ replicate (most_fields - length ps) empty)
+unfolding fields_answer
 answered true ps e = (refl, refl)
 answered false ps e = absurd (omega arith)
 
 -- an object that is accepted is good
-pub good : (k : Kind) (s : List ℕ) → (objectOf k s).0 ≡ 0 → Good k s
-unfolding objectOf objectFrom fieldsAnswer
-good k s p = by-header (onlyOf dataObjectTag s) refl p
+pub good : (k : Kind) (s : List ℕ) → (object_of k s).0 ≡ 0 → Good k s
+unfolding object_of object_from fields_answer
+good k s p = by_header (only_of data_object_tag s) refl p
   where
-    by-header : (h : Header) → h ≡ onlyOf dataObjectTag s → (objectFrom h k s).0 ≡ 0 → Good k s
-    by-header Malformed e q = absurd (omega arith)
-    by-header (Whole tag nest at n) e q =
-        let i = only-is dataObjectTag s e in
-        let f = fieldsFrom (take n (drop at s)) at (rows_of k) 0 in
+    by_header : (h : Header) → h ≡ only_of data_object_tag s → (object_from h k s).0 ≡ 0 → Good k s
+    by_header Malformed e q = absurd (omega arith)
+    by_header (Whole tag nest at n) e q =
+        let i = only_is data_object_tag s e in
+        let f = fields_from (take n (drop at s)) at (rows_of k) 0 in
         let a = answered f.0 f.1 q in
         record {
           nested = nest;
@@ -146,41 +146,41 @@ good k s p = by-header (onlyOf dataObjectTag s) refl p
           whole = rw (← i.1) i.0;
           ends = i.2;
           fields = a.0;
-          filler = replicate (mostFields - length f.1) empty;
-          parts = ap (λ (h : Header). (objectFrom h k s).1) (sym e) ∙ a.1;
+          filler = replicate (most_fields - length f.1) empty;
+          parts = ap (λ (h : Header). (object_from h k s).1) (sym e) ∙ a.1;
         }
 
 -- a good object is not empty
-pub object-not-empty : (k : Kind) (s : List ℕ) → (objectOf k s).0 ≡ 0 → 0 < length s
-object-not-empty k s p = let g = good k s p in omega (arith, g.ends, header-start s g.whole)
+pub object_not_empty : (k : Kind) (s : List ℕ) → (object_of k s).0 ≡ 0 → 0 < length s
+object_not_empty k s p = let g = good k s p in omega (arith, g.ends, header_start s g.whole)
 
 -- a field that is as its row asks has a length that the row allows
-field-allowed : (v : List ℕ) (base : ℕ) (r : Row) (at : ℕ) → (rowField v base r at).ok ≡ true → allowed r (rowField v base r at).part.len ≡ true
-field-allowed v base r at =
-    field-cases v base r at (λ (f : Field). f.ok ≡ true → allowed r f.part.len ≡ true)
+field_allowed : (v : List ℕ) (base : ℕ) (r : Row) (at : ℕ) → (row_field v base r at).ok ≡ true → allowed r (row_field v base r at).part.len ≡ true
+field_allowed v base r at =
+    field_cases v base r at (λ (f : Field). f.ok ≡ true → allowed r f.part.len ≡ true)
     (λ (o : r.3 ≡ true). rw o (or-true (leb r.1 0 && leb 0 r.2))) (λ tag start len nested e k o. rw o)
 
 -- the same of the row with a tag, among the rows from a place on
-fields-allowed : (v : List ℕ) (base : ℕ) (rs : List Row) (at tag : ℕ) (more : List Part) → (fieldsFrom v base rs at).0 ≡ true
-    → allowed (row_in rs tag) (partIn rs ((fieldsFrom v base rs at).1 ++ more) tag).len ≡ true
-unfolding fieldsFrom partIn row_in
-fields-allowed v base [] at tag more o = refl
-fields-allowed v base (r ∷ rs) at tag more o =
-    let f = rowField v base r at in
-    let after = fieldsFrom v base rs f.next in
+fields_allowed : (v : List ℕ) (base : ℕ) (rs : List Row) (at tag : ℕ) (more : List Part) → (fields_from v base rs at).0 ≡ true
+    → allowed (row_in rs tag) (part_in rs ((fields_from v base rs at).1 ++ more) tag).len ≡ true
+unfolding fields_from part_in row_in
+fields_allowed v base [] at tag more o = refl
+fields_allowed v base (r ∷ rs) at tag more o =
+    let f = row_field v base r at in
+    let after = fields_from v base rs f.next in
     let p = (and-eq-true_iff f.ok after.0).0 o in
-    by-tag (eqb r.0 tag) (field-allowed v base r at p.0) (fields-allowed v base rs f.next tag more p.1)
+    by_tag (eqb r.0 tag) (field_allowed v base r at p.0) (fields_allowed v base rs f.next tag more p.1)
   where
-    by-tag : (k : Bool) → let f = rowField v base r at in let q = partIn rs ((fieldsFrom v base rs f.next).1 ++ more) tag in
+    by_tag : (k : Bool) → let f = row_field v base r at in let q = part_in rs ((fields_from v base rs f.next).1 ++ more) tag in
         allowed r f.part.len ≡ true → allowed (row_in rs tag) q.len ≡ true → allowed (cond k r (row_in rs tag)) (cond k f.part q).len ≡ true
-    by-tag true here later = here
-    by-tag false here later = later
+    by_tag true here later = here
+    by_tag false here later = later
 
 -- the field with a tag in a good object has a length that its row allows
-pub part-allowed : (k : Kind) (s : List ℕ) (tag : ℕ) → (objectOf k s).0 ≡ 0 → allowed (row_in (rows_of k) tag) (fieldPart k tag s).len ≡ true
+pub part-allowed : (k : Kind) (s : List ℕ) (tag : ℕ) → (object_of k s).0 ≡ 0 → allowed (row_in (rows_of k) tag) (field_part k tag s).len ≡ true
 part-allowed k s tag p =
     let g = good k s p in
-    rw g.parts (fields-allowed (take g.len (drop g.start s)) g.start (rows_of k) 0 tag g.filler g.fields)
+    rw g.parts (fields_allowed (take g.len (drop g.start s)) g.start (rows_of k) 0 tag g.filler g.fields)
 
 -- the first of two tests passes where the second does not
 or_left : (x : Bool) → (x || false) ≡ true → x ≡ true
@@ -188,23 +188,23 @@ or_left true e = refl
 or_left false e = e
 
 -- the field with a tag that has to be there, in a good object: it has a length between the least and the greatest
-pub length-between : (k : Kind) (s : List ℕ) (tag low high : ℕ) → row_in (rows_of k) tag ≡ required tag low high → (objectOf k s).0 ≡ 0
-    → let n = (fieldPart k tag s).len in (low ≤ n) × (n ≤ high)
+pub length-between : (k : Kind) (s : List ℕ) (tag low high : ℕ) → row_in (rows_of k) tag ≡ required tag low high → (object_of k s).0 ≡ 0
+    → let n = (field_part k tag s).len in (low ≤ n) × (n ≤ high)
 length-between k s tag low high r p =
-    let n = (fieldPart k tag s).len in
+    let n = (field_part k tag s).len in
     let fits : allowed (required tag low high) n ≡ true = rw r at (part-allowed k s tag p) in
     let q = (and-eq-true_iff (leb low n) (leb n high)).0 (or_left (leb low n && leb n high) fits) in
     (leb-true low n q.0, leb-true n high q.1)
 
 -- so where its row fixes the length, it has that length
-pub length-is : (k : Kind) (s : List ℕ) (tag n : ℕ) → row_in (rows_of k) tag ≡ required tag n n → (objectOf k s).0 ≡ 0 → (fieldPart k tag s).len ≡ n
-length-is k s tag n r p = let b = length-between k s tag n n r p in omega (arith, b.0, b.1)
+pub length_is : (k : Kind) (s : List ℕ) (tag n : ℕ) → row_in (rows_of k) tag ≡ required tag n n → (object_of k s).0 ≡ 0 → (field_part k tag s).len ≡ n
+length_is k s tag n r p = let b = length-between k s tag n n r p in omega (arith, b.0, b.1)
 
 -- and the field with a tag that may be absent then has that length, or is empty
-pub length-or-none : (k : Kind) (s : List ℕ) (tag n : ℕ) → row_in (rows_of k) tag ≡ optional tag n n → (objectOf k s).0 ≡ 0
-    → ((fieldPart k tag s).len ≡ n) ⊎ ((fieldPart k tag s).len ≡ 0)
-length-or-none k s tag n r p =
-    let len = (fieldPart k tag s).len in
+pub length_or_none : (k : Kind) (s : List ℕ) (tag n : ℕ) → row_in (rows_of k) tag ≡ optional tag n n → (object_of k s).0 ≡ 0
+    → ((field_part k tag s).len ≡ n) ⊎ ((field_part k tag s).len ≡ 0)
+length_or_none k s tag n r p =
+    let len = (field_part k tag s).len in
     let fits : allowed (optional tag n n) len ≡ true = rw r at (part-allowed k s tag p) in
     either len (eqb len 0) refl fits
   where
@@ -215,21 +215,21 @@ length-or-none k s tag n r p =
         inl (let low = leb-true n len q.0 in let high = leb-true len n q.1 in omega arith)
 
 -- the lengths of the fields that have to be there, object by object
-pub signed-lengths : (s : List ℕ) → (objectOf Signed s).0 ≡ 0
-    → ((fieldPart Signed fascnTag s).len ≡ 25) × ((fieldPart Signed guidTag s).len ≡ 16) × ((fieldPart Signed expiryTag s).len ≡ 8) × (1 ≤ (fieldPart Signed signatureTag s).len) × ((fieldPart Signed signatureTag s).len ≤ 2816)
+pub signed_lengths : (s : List ℕ) → (object_of Signed s).0 ≡ 0
+    → ((field_part Signed fascn_tag s).len ≡ 25) × ((field_part Signed guid_tag s).len ≡ 16) × ((field_part Signed expiry_tag s).len ≡ 8) × (1 ≤ (field_part Signed signature_tag s).len) × ((field_part Signed signature_tag s).len ≤ 2816)
 unfolding row_in rows_of
-signed-lengths s p =
-    let b = length-between Signed s signatureTag 1 2816 refl p in
-    (length-is Signed s fascnTag 25 refl p, length-is Signed s guidTag 16 refl p, length-is Signed s expiryTag 8 refl p, b.0, b.1)
+signed_lengths s p =
+    let b = length-between Signed s signature_tag 1 2816 refl p in
+    (length_is Signed s fascn_tag 25 refl p, length_is Signed s guid_tag 16 refl p, length_is Signed s expiry_tag 8 refl p, b.0, b.1)
 
-pub unsigned-lengths : (s : List ℕ) → (objectOf Unsigned s).0 ≡ 0 → ((fieldPart Unsigned fascnTag s).len ≡ 25) × ((fieldPart Unsigned expiryTag s).len ≡ 8)
+pub unsigned_lengths : (s : List ℕ) → (object_of Unsigned s).0 ≡ 0 → ((field_part Unsigned fascn_tag s).len ≡ 25) × ((field_part Unsigned expiry_tag s).len ≡ 8)
 unfolding row_in rows_of
-unsigned-lengths s p = (length-is Unsigned s fascnTag 25 refl p, length-is Unsigned s expiryTag 8 refl p)
+unsigned_lengths s p = (length_is Unsigned s fascn_tag 25 refl p, length_is Unsigned s expiry_tag 8 refl p)
 
-pub fingers-lengths : (s : List ℕ) → (objectOf Fingers s).0 ≡ 0 → (1 ≤ (fieldPart Fingers biometricTag s).len) × ((fieldPart Fingers biometricTag s).len ≤ 862)
+pub fingers_lengths : (s : List ℕ) → (object_of Fingers s).0 ≡ 0 → (1 ≤ (field_part Fingers biometric_tag s).len) × ((field_part Fingers biometric_tag s).len ≤ 862)
 unfolding row_in rows_of
-fingers-lengths s p = length-between Fingers s biometricTag 1 862 refl p
+fingers_lengths s p = length-between Fingers s biometric_tag 1 862 refl p
 
-pub picture-lengths : (s : List ℕ) → (objectOf Picture s).0 ≡ 0 → (1 ≤ (fieldPart Picture biometricTag s).len) × ((fieldPart Picture biometricTag s).len ≤ 16000)
+pub picture_lengths : (s : List ℕ) → (object_of Picture s).0 ≡ 0 → (1 ≤ (field_part Picture biometric_tag s).len) × ((field_part Picture biometric_tag s).len ≤ 16000)
 unfolding row_in rows_of
-picture-lengths s p = length-between Picture s biometricTag 1 16000 refl p
+picture_lengths s p = length-between Picture s biometric_tag 1 16000 refl p

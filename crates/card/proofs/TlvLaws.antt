@@ -11,30 +11,30 @@ use borrow.Author.Tests.{eqb-true, ltb-false, eqb-false, le-ltb, ne_eqb}
 use lib.ListN.{length, get_or, take, drop, length-append, length-drop, get_or-append}
 use lib.Seq.{drop-drop, length-take-le}
 use lib.Dec.{ltb, eqb}
-use Rattle.card.specs.Tlv.{tagSize, tagNumber, nestedBit, lengthSize, length_of, endingOf, afterTag, headerOf, onlyFrom, onlyOf}
+use Rattle.card.specs.Tlv.{tag_size, tag_number, nested_bit, length_size, length_of, ending_of, after_tag, header_of, only_from, only_of}
 use Rattle.card.specs.declared.tlv.Header.{Header}
 use Rattle.card.specs.declared.tlv.Header.TheVariants.{Whole, Malformed}
 
 -- ---- the parts of a header
 
 -- f of the first three bytes
-abbrev pub ofThree : (ℕ → ℕ → ℕ → ℕ) → List ℕ → ℕ
-ofThree f s = f (get_or s 0 0) (get_or s 1 0) (get_or s 2 0)
+abbrev pub of_three : (ℕ → ℕ → ℕ → ℕ) → List ℕ → ℕ
+of_three f s = f (get_or s 0 0) (get_or s 1 0) (get_or s 2 0)
 
 -- s begins with a whole TLV, whose tag takes t bytes and whose length takes l
 pub record Parts (s : List ℕ) (t l tag : ℕ) (nested : Bool) (len : ℕ) : Type 0 where
-  pub size : ofThree tagSize s ≡ t
-  pub number : ofThree tagNumber s ≡ tag
-  pub bit : nestedBit (get_or s 0 0) ≡ nested
-  pub form : lengthSize (get_or s t 0) ≡ l
+  pub size : of_three tag_size s ≡ t
+  pub number : of_three tag_number s ≡ tag
+  pub bit : nested_bit (get_or s 0 0) ≡ nested
+  pub form : length_size (get_or s t 0) ≡ l
   pub count : length_of (get_or s t 0) (get_or s (t + 1) 0) (get_or s (t + 2) 0) ≡ len
   pub tagged : 0 < t
   pub formed : 0 < l
   pub inside : t + l + len ≤ length s
 
 -- so its header is whole
-pub whole : (s : List ℕ) (t l : ℕ) {tag len : ℕ} {nested : Bool} → Parts s t l tag nested len → headerOf s ≡ Whole tag nested (t + l) len
-unfolding headerOf afterTag endingOf
+pub whole : (s : List ℕ) (t l : ℕ) {tag len : ℕ} {nested : Bool} → Parts s t l tag nested len → header_of s ≡ Whole tag nested (t + l) len
+unfolding header_of after_tag ending_of
 whole s t l {tag} {len} {nested} p =
     simp (p.size, p.number, p.bit, p.form, p.count, ne_eqb t 0 (omega arith), ne_eqb l 0 (omega arith), le-ltb (length s) (t + l + len) p.inside)
 
@@ -48,15 +48,15 @@ picked false false true tag' k' start' len' e = let h : ◌≡◌ {A = ℕ} 0 1 
 picked false false false tag' k' start' len' e = (refl, refl, refl, (cc), (cc), (cc), (cc))
 
 -- and the other way: a header that is whole has these parts
-pub parts : (s : List ℕ) {tag start len : ℕ} {nested : Bool} → Whole tag nested start len ≡ headerOf s
-    → (ofThree tagSize s + lengthSize (get_or s (ofThree tagSize s) 0) ≡ start)
-    × Parts s (ofThree tagSize s) (lengthSize (get_or s (ofThree tagSize s) 0)) tag nested len
-unfolding headerOf afterTag endingOf
+pub parts : (s : List ℕ) {tag start len : ℕ} {nested : Bool} → Whole tag nested start len ≡ header_of s
+    → (of_three tag_size s + length_size (get_or s (of_three tag_size s) 0) ≡ start)
+    × Parts s (of_three tag_size s) (length_size (get_or s (of_three tag_size s) 0)) tag nested len
+unfolding header_of after_tag ending_of
 parts s {tag} {start} {len} {nested} e =
-    let t = ofThree tagSize s in
-    let l = lengthSize (get_or s t 0) in
+    let t = of_three tag_size s in
+    let l = length_size (get_or s t 0) in
     let n = length_of (get_or s t 0) (get_or s (t + 1) 0) (get_or s (t + 2) 0) in
-    let p = picked (eqb t 0) (eqb l 0) (ltb (length s) (t + l + n)) (ofThree tagNumber s) (nestedBit (get_or s 0 0)) (t + l) n e in (
+    let p = picked (eqb t 0) (eqb l 0) (ltb (length s) (t + l + n)) (of_three tag_number s) (nested_bit (get_or s 0 0)) (t + l) n e in (
       p.5,
       record {
         size = refl;
@@ -73,65 +73,65 @@ parts s {tag} {start} {len} {nested} e =
 -- ---- where a TLV lies
 
 -- no bytes are no TLV
-pub header-empty : headerOf [] ≡ Malformed
-unfolding headerOf afterTag endingOf tagSize lengthSize length_of
-header-empty = refl
+pub header_empty : header_of [] ≡ Malformed
+unfolding header_of after_tag ending_of tag_size length_size length_of
+header_empty = refl
 
 -- it ends within the list
-pub header-inside : (s : List ℕ) {tag start len : ℕ} {nested : Bool} → Whole tag nested start len ≡ headerOf s → start + len ≤ length s
-header-inside s e = let p = parts s e in omega arith
+pub header_inside : (s : List ℕ) {tag start len : ℕ} {nested : Bool} → Whole tag nested start len ≡ header_of s → start + len ≤ length s
+header_inside s e = let p = parts s e in omega arith
 
 -- and so does the TLV at a place of the list
-pub place_inside : (s : List ℕ) (at : ℕ) {tag start len : ℕ} {nested : Bool} → Whole tag nested start len ≡ headerOf (drop at s) → at ≤ length s → at + start + len ≤ length s
-place_inside s at e h = omega (arith, header-inside (drop at s) e, length-drop at s)
+pub place_inside : (s : List ℕ) (at : ℕ) {tag start len : ℕ} {nested : Bool} → Whole tag nested start len ≡ header_of (drop at s) → at ≤ length s → at + start + len ≤ length s
+place_inside s at e h = omega (arith, header_inside (drop at s) e, length-drop at s)
 
 -- what stands after it there
-pub after-place : (s : List ℕ) (at start len : ℕ) → drop (start + len) (drop at s) ≡ drop (at + start + len) s
-after-place s at start len = rw (drop-drop, add_assoc)
+pub after_place_lem : (s : List ℕ) (at start len : ℕ) → drop (start + len) (drop at s) ≡ drop (at + start + len) s
+after_place_lem s at start len = rw (drop-drop, add_assoc)
 
 -- its value has as many bytes as the length says
-pub value-length : (s : List ℕ) {tag start len : ℕ} {nested : Bool} → Whole tag nested start len ≡ headerOf s → length (take len (drop start s)) ≡ len
-value-length s {start = start} {len} e = length-take-le len (drop start s) (omega (arith, header-inside s e, length-drop start s))
+pub value_length : (s : List ℕ) {tag start len : ℕ} {nested : Bool} → Whole tag nested start len ≡ header_of s → length (take len (drop start s)) ≡ len
+value_length s {start = start} {len} e = length-take-le len (drop start s) (omega (arith, header_inside s e, length-drop start s))
 
 -- its value has a tag byte and a length byte at least before it
-pub header-two : (s : List ℕ) {tag start len : ℕ} {nested : Bool} → Whole tag nested start len ≡ headerOf s → 1 < start
-header-two s e = let p = parts s e in omega arith
+pub header_two : (s : List ℕ) {tag start len : ℕ} {nested : Bool} → Whole tag nested start len ≡ header_of s → 1 < start
+header_two s e = let p = parts s e in omega arith
 
 -- so a walk over TLVs goes on
-pub header-start : (s : List ℕ) {tag start len : ℕ} {nested : Bool} → Whole tag nested start len ≡ headerOf s → 0 < start
-header-start s e = let h = header-two s e in omega arith
+pub header_start : (s : List ℕ) {tag start len : ℕ} {nested : Bool} → Whole tag nested start len ≡ header_of s → 0 < start
+header_start s e = let h = header_two s e in omega arith
 
 -- ---- the three sizes of a tag and of a length
 
 -- a law on the size and the number of a tag, size by size
-pub tag-cases : (a b c : ℕ) (P : ℕ → ℕ → Type 0) → (eqb (a % 32) 31 ≡ false → P 1 a)
+pub tag_cases : (a b c : ℕ) (P : ℕ → ℕ → Type 0) → (eqb (a % 32) 31 ≡ false → P 1 a)
     → (eqb (a % 32) 31 ≡ true → ltb b 128 ≡ true → P 2 (a * 256 + b))
     → (eqb (a % 32) 31 ≡ true → ltb b 128 ≡ false → ltb c 128 ≡ true → P 3 (a * 65536 + b * 256 + c))
-    → 0 < tagSize a b c → P (tagSize a b c) (tagNumber a b c)
-unfolding tagSize tagNumber
-tag-cases a b c P u v w h = go (eqb (a % 32) 31) (ltb b 128) (ltb c 128) refl refl refl
+    → 0 < tag_size a b c → P (tag_size a b c) (tag_number a b c)
+unfolding tag_size tag_number
+tag_cases a b c P u v w h = go (eqb (a % 32) 31) (ltb b 128) (ltb c 128) refl refl refl
   where
-    go : (x y z : Bool) → eqb (a % 32) 31 ≡ x → ltb b 128 ≡ y → ltb c 128 ≡ z → P (tagSize a b c) (tagNumber a b c)
+    go : (x y z : Bool) → eqb (a % 32) 31 ≡ x → ltb b 128 ≡ y → ltb c 128 ≡ z → P (tag_size a b c) (tag_number a b c)
     go false y z p q r = simp p (u p)
     go true true z p q r = simp (p, q) (v p q)
     go true false true p q r = simp (p, q, r) (w p q r)
     go true false false p q r = absurd (omega (arith, simp (p, q, r) at h))
 
 -- a tag below 256 is its first byte
-pub first_byte : (s : List ℕ) {tag start len : ℕ} {nested : Bool} → Whole tag nested start len ≡ headerOf s → tag < 256 → tag ≡ get_or s 0 0
+pub first_byte : (s : List ℕ) {tag start len : ℕ} {nested : Bool} → Whole tag nested start len ≡ header_of s → tag < 256 → tag ≡ get_or s 0 0
 first_byte s {tag} e small =
     let p = (parts s e).1 in
     let a = get_or s 0 0 in
-    tag-cases a (get_or s 1 0) (get_or s 2 0) (λ (size n : ℕ). n ≡ tag → tag ≡ a) (λ h q. sym q)
+    tag_cases a (get_or s 1 0) (get_or s 2 0) (λ (size n : ℕ). n ≡ tag → tag ≡ a) (λ h q. sym q)
     (λ h b q. absurd (omega (arith, eqb-true (a % 32) 31 h, q))) (λ h b c q. absurd (omega (arith, eqb-true (a % 32) 31 h, q))) p.tagged p.number
 
 -- a law on the size of a length and the length, size by size
-pub length-cases : (a b c : ℕ) (P : ℕ → ℕ → Type 0) → (ltb a 0x80 ≡ true → P 1 a) → (a ≡ 0x81 → P 2 b) → (a ≡ 0x82 → P 3 (b * 256 + c))
-    → 0 < lengthSize a → P (lengthSize a) (length_of a b c)
-unfolding lengthSize length_of
-length-cases a b c P u v w h = go (ltb a 0x80) (eqb a 0x81) (eqb a 0x82) refl refl refl
+pub length_cases : (a b c : ℕ) (P : ℕ → ℕ → Type 0) → (ltb a 0x80 ≡ true → P 1 a) → (a ≡ 0x81 → P 2 b) → (a ≡ 0x82 → P 3 (b * 256 + c))
+    → 0 < length_size a → P (length_size a) (length_of a b c)
+unfolding length_size length_of
+length_cases a b c P u v w h = go (ltb a 0x80) (eqb a 0x81) (eqb a 0x82) refl refl refl
   where
-    go : (x y z : Bool) → ltb a 0x80 ≡ x → eqb a 0x81 ≡ y → eqb a 0x82 ≡ z → P (lengthSize a) (length_of a b c)
+    go : (x y z : Bool) → ltb a 0x80 ≡ x → eqb a 0x81 ≡ y → eqb a 0x82 ≡ z → P (length_size a) (length_of a b c)
     go true y z p q r = simp p (u p)
     go false true z p q r = simp (p, q) (v (eqb-true a 0x81 q))
     go false false true p q r = simp (p, q, r) (w (eqb-true a 0x82 r))
@@ -140,39 +140,39 @@ length-cases a b c P u v w h = go (ltb a 0x80) (eqb a 0x81) (eqb a 0x82) refl re
 -- ---- what stands after a TLV
 
 -- a list that begins with the bytes of a tag begins with that tag
-pub tag-agree : (s s' : List ℕ) → 0 < ofThree tagSize s → ((i : ℕ) → i < ofThree tagSize s → get_or s' i 0 ≡ get_or s i 0)
-    → (ofThree tagSize s' ≡ ofThree tagSize s) × (ofThree tagNumber s' ≡ ofThree tagNumber s)
-unfolding tagSize tagNumber
-tag-agree s s' =
-    tag-cases (get_or s 0 0) (get_or s 1 0) (get_or s 2 0)
-    (λ k n. ((i : ℕ) → i < k → get_or s' i 0 ≡ get_or s i 0) → (ofThree tagSize s' ≡ k) × (ofThree tagNumber s' ≡ n))
+pub tag_agree : (s s' : List ℕ) → 0 < of_three tag_size s → ((i : ℕ) → i < of_three tag_size s → get_or s' i 0 ≡ get_or s i 0)
+    → (of_three tag_size s' ≡ of_three tag_size s) × (of_three tag_number s' ≡ of_three tag_number s)
+unfolding tag_size tag_number
+tag_agree s s' =
+    tag_cases (get_or s 0 0) (get_or s 1 0) (get_or s 2 0)
+    (λ k n. ((i : ℕ) → i < k → get_or s' i 0 ≡ get_or s i 0) → (of_three tag_size s' ≡ k) × (of_three tag_number s' ≡ n))
     (λ p same. simp (same 0 (omega arith), p) (refl, refl))
     (λ p q same. simp (same 0 (omega arith), same 1 (omega arith), p, q) (refl, refl))
     (λ p q r same. simp (same 0 (omega arith), same 1 (omega arith), same 2 (omega arith), p, q, r) (refl, refl))
 
 -- the bytes of a length decide it
-length-agree : (a b c b' c' : ℕ) → 0 < lengthSize a → (1 < lengthSize a → b' ≡ b) → (2 < lengthSize a → c' ≡ c) → length_of a b' c' ≡ length_of a b c
-unfolding lengthSize length_of
-length-agree a b c b' c' =
-    length-cases a b c (λ k n. (1 < k → b' ≡ b) → (2 < k → c' ≡ c) → length_of a b' c' ≡ n)
+length_agree : (a b c b' c' : ℕ) → 0 < length_size a → (1 < length_size a → b' ≡ b) → (2 < length_size a → c' ≡ c) → length_of a b' c' ≡ length_of a b c
+unfolding length_size length_of
+length_agree a b c b' c' =
+    length_cases a b c (λ k n. (1 < k → b' ≡ b) → (2 < k → c' ≡ c) → length_of a b' c' ≡ n)
     (λ p u v. simp p) (λ p u v. rw p (u (omega arith))) (λ p u v. rw (p, u (omega arith), v (omega arith)))
 
 -- a list that begins with the bytes of a header, and is long enough, begins with that header
-pub header-agree : (s s' : List ℕ) {tag start len : ℕ} {nested : Bool} → Whole tag nested start len ≡ headerOf s
-    → ((i : ℕ) → i < start → get_or s' i 0 ≡ get_or s i 0) → start + len ≤ length s' → headerOf s' ≡ Whole tag nested start len
-header-agree s s' {tag} {start} {len} {nested} e same fits =
-    let t = ofThree tagSize s in
-    let l = lengthSize (get_or s t 0) in
+pub header_agree : (s s' : List ℕ) {tag start len : ℕ} {nested : Bool} → Whole tag nested start len ≡ header_of s
+    → ((i : ℕ) → i < start → get_or s' i 0 ≡ get_or s i 0) → start + len ≤ length s' → header_of s' ≡ Whole tag nested start len
+header_agree s s' {tag} {start} {len} {nested} e same fits =
+    let t = of_three tag_size s in
+    let l = length_size (get_or s t 0) in
     let at : t + l ≡ start = (parts s e).0 in
     let p : Parts s t l tag nested len = (parts s e).1 in
-    let g = tag-agree s s' p.tagged (λ i h. same i (omega arith)) in
+    let g = tag_agree s s' p.tagged (λ i h. same i (omega arith)) in
     let z : get_or s' t 0 ≡ get_or s t 0 = same t (omega arith) in
     rw (← at) (whole s' t l record {
       size = g.0;
       number = g.1 ∙ p.number;
       bit = rw (same 0 (omega arith)) p.bit;
-      form = ap lengthSize z;
-      count = rw z (length-agree (get_or s t 0) (get_or s (t + 1) 0) (get_or s (t + 2) 0) (get_or s' (t + 1) 0) (get_or s' (t + 2) 0) p.formed
+      form = ap length_size z;
+      count = rw z (length_agree (get_or s t 0) (get_or s (t + 1) 0) (get_or s (t + 2) 0) (get_or s' (t + 1) 0) (get_or s' (t + 2) 0) p.formed
           (λ h. same (t + 1) (omega arith)) (λ h. same (t + 2) (omega arith)) ∙ p.count);
       tagged = p.tagged;
       formed = p.formed;
@@ -180,15 +180,15 @@ header-agree s s' {tag} {start} {len} {nested} e same fits =
     })
 
 -- what stands after a whole TLV does not matter
-pub header-more : (s t : List ℕ) {tag start len : ℕ} {nested : Bool} → Whole tag nested start len ≡ headerOf s
-    → headerOf (s ++ t) ≡ Whole tag nested start len
-header-more s t e =
-    let h = header-inside s e in
-    header-agree s (s ++ t) e (λ i k. get_or-append s t 0 i (omega arith)) (rw length-append (omega arith))
+pub header_more : (s t : List ℕ) {tag start len : ℕ} {nested : Bool} → Whole tag nested start len ≡ header_of s
+    → header_of (s ++ t) ≡ Whole tag nested start len
+header_more s t e =
+    let h = header_inside s e in
+    header_agree s (s ++ t) e (λ i k. get_or-append s t 0 i (omega arith)) (rw length-append (omega arith))
 
 -- what an arm knows of a header that was read of a part: `x` is the variant's value
-pub known : {h x : Header} {l m : List ℕ} → h ≡ x → h ≡ headerOf l → l ≡ m → x ≡ headerOf m
-known p q r = sym p ∙ q ∙ ap headerOf r
+pub known : {h x : Header} {l m : List ℕ} → h ≡ x → h ≡ header_of l → l ≡ m → x ≡ header_of m
+known p q r = sym p ∙ q ∙ ap header_of r
 
 -- ---- one TLV with a tag, and nothing after it
 
@@ -198,11 +198,11 @@ kept true x e = (refl, e)
 kept false x e = let h : ◌≡◌ {A = ℕ} 0 1 = cc in absurd (omega arith)
 
 -- by the header at the front
-only-from : (h : Header) (wanted : ℕ) (s : List ℕ) {tag start len : ℕ} {nested : Bool} → Whole tag nested start len ≡ onlyFrom h wanted s
+only_from_lem : (h : Header) (wanted : ℕ) (s : List ℕ) {tag start len : ℕ} {nested : Bool} → Whole tag nested start len ≡ only_from h wanted s
     → (Whole tag nested start len ≡ h) × (tag ≡ wanted) × (start + len ≡ length s)
-unfolding onlyFrom
-only-from Malformed wanted s e = let h : ◌≡◌ {A = ℕ} 0 1 = cc in absurd (omega arith)
-only-from (Whole t b a n) wanted s {tag} {start} {len} {nested} e =
+unfolding only_from
+only_from_lem Malformed wanted s e = let h : ◌≡◌ {A = ℕ} 0 1 = cc in absurd (omega arith)
+only_from_lem (Whole t b a n) wanted s {tag} {start} {len} {nested} e =
     let p = kept (eqb t wanted && eqb (a + n) (length s)) (Whole t b a n) e in
     let q = (and-eq-true_iff (eqb t wanted) (eqb (a + n) (length s))).0 p.0 in
     let f = p.1 in
@@ -212,19 +212,19 @@ only-from (Whole t b a n) wanted s {tag} {start} {len} {nested} e =
     (f, rw et (eqb-true t wanted q.0), rw (ea, en) (eqb-true (a + n) (length s) q.1))
 
 -- it is the TLV at the ofThree, has the tag, and ends where the list ends
-pub only-is : (wanted : ℕ) (s : List ℕ) {tag start len : ℕ} {nested : Bool} → Whole tag nested start len ≡ onlyOf wanted s
-    → (Whole tag nested start len ≡ headerOf s) × (tag ≡ wanted) × (start + len ≡ length s)
-unfolding onlyOf
-only-is wanted s e = only-from (headerOf s) wanted s e
+pub only_is : (wanted : ℕ) (s : List ℕ) {tag start len : ℕ} {nested : Bool} → Whole tag nested start len ≡ only_of wanted s
+    → (Whole tag nested start len ≡ header_of s) × (tag ≡ wanted) × (start + len ≡ length s)
+unfolding only_of
+only_is wanted s e = only_from_lem (header_of s) wanted s e
 
 -- a header's bytes and its length are few
-pub header-small : (s : List ℕ) {tag start len : ℕ} {nested : Bool} → ((i : ℕ) → get_or s i 0 < 256) → Whole tag nested start len ≡ headerOf s → (start < 8) × (len < 65536)
-header-small s f e =
+pub header_small : (s : List ℕ) {tag start len : ℕ} {nested : Bool} → ((i : ℕ) → get_or s i 0 < 256) → Whole tag nested start len ≡ header_of s → (start < 8) × (len < 65536)
+header_small s f e =
     let p = parts s e in
     let q = p.1 in
-    let t = ofThree tagSize s in
-    let a : ofThree tagSize s ≤ 3 = tag-cases (get_or s 0 0) (get_or s 1 0) (get_or s 2 0) (λ k n. k ≤ 3) (λ x. omega arith) (λ x y. omega arith) (λ x y z. omega arith) q.tagged in
-    let b : (lengthSize (get_or s t 0) ≤ 3) × (length_of (get_or s t 0) (get_or s (t + 1) 0) (get_or s (t + 2) 0) < 65536) =
-    length-cases (get_or s t 0) (get_or s (t + 1) 0) (get_or s (t + 2) 0) (λ k n. (k ≤ 3) × (n < 65536))
+    let t = of_three tag_size s in
+    let a : of_three tag_size s ≤ 3 = tag_cases (get_or s 0 0) (get_or s 1 0) (get_or s 2 0) (λ k n. k ≤ 3) (λ x. omega arith) (λ x y. omega arith) (λ x y z. omega arith) q.tagged in
+    let b : (length_size (get_or s t 0) ≤ 3) × (length_of (get_or s t 0) (get_or s (t + 1) 0) (get_or s (t + 2) 0) < 65536) =
+    length_cases (get_or s t 0) (get_or s (t + 1) 0) (get_or s (t + 2) 0) (λ k n. (k ≤ 3) × (n < 65536))
     (λ x. (omega arith, omega (arith, f t))) (λ x. (omega arith, omega (arith, f (t + 1)))) (λ x. (omega arith, omega (arith, f (t + 1), f (t + 2)))) q.formed in
     (omega (arith, p.0, a, b.0), omega (arith, q.count, b.1))

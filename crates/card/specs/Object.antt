@@ -2,9 +2,9 @@
 -- 53 and nothing after; its value holds one-byte-tag fields, each once, in this order". Fields are not opened further.
 -- Assumes nothing.
 use Rattle.std.specs.Prelude.{◌≡◌, Bool, true, false, cond, ◌&&◌, ◌||◌, List, [], ◌∷◌, ◌++◌, ℕ, ◌+◌, ◌-◌, ◌≤◌, eqb, leb, length, take, drop, replicate}
-use Rattle.card.specs.Fascn.{fascnBytes}
-use Rattle.card.specs.Date.{dateDigits}
-use Rattle.card.specs.Tlv.{headerOf, onlyOf, fitsForm, encoded}
+use Rattle.card.specs.Fascn.{fascn_bytes}
+use Rattle.card.specs.Date.{date_digits}
+use Rattle.card.specs.Tlv.{header_of, only_of, fits_form, encoded}
 use Rattle.card.specs.declared.tlv.Header.{Header}
 use Rattle.card.specs.declared.tlv.Header.TheVariants.{Whole, Malformed}
 use Rattle.card.specs.declared.object.Kind.{Kind}
@@ -19,55 +19,55 @@ use Rattle.card.specs.declared.object.ObjectAnswer.TheVariants as object-answers
 -- ---- the tags
 
 -- "one TLV with tag 53"
-abbrev pub dataObjectTag : ℕ
-dataObjectTag = 0x53
+abbrev pub data_object_tag : ℕ
+data_object_tag = 0x53
 
 -- "EE with 2 bytes": the buffer length. This and 31, 32, 33 are elements of document 003, "checked for place and length
 -- and not used" (document 02, request 5).
-abbrev pub bufferLengthTag : ℕ
-bufferLengthTag = 0xEE
+abbrev pub buffer_length_tag : ℕ
+buffer_length_tag = 0xEE
 
 -- "30 (25 bytes)": the FASC-N
-abbrev pub fascnTag : ℕ
-fascnTag = 0x30
+abbrev pub fascn_tag : ℕ
+fascn_tag = 0x30
 
 -- "31 (4 bytes)": the agency code
-abbrev pub agencyTag : ℕ
-agencyTag = 0x31
+abbrev pub agency_tag : ℕ
+agency_tag = 0x31
 
 -- "32 (4)": the organization identifier
-abbrev pub organizationTag : ℕ
-organizationTag = 0x32
+abbrev pub organization_tag : ℕ
+organization_tag = 0x32
 
 -- "33 (9)": the DUNS number of the issuer
-abbrev pub dunsTag : ℕ
-dunsTag = 0x33
+abbrev pub duns_tag : ℕ
+duns_tag = 0x33
 
 -- "34 (16)": the GUID
-abbrev pub guidTag : ℕ
-guidTag = 0x34
+abbrev pub guid_tag : ℕ
+guid_tag = 0x34
 
 -- "35 (8)": the expiry date
-abbrev pub expiryTag : ℕ
-expiryTag = 0x35
+abbrev pub expiry_tag : ℕ
+expiry_tag = 0x35
 
 -- "3E (1 to 2,816)": the issuer's signature
-abbrev pub signatureTag : ℕ
-signatureTag = 0x3E
+abbrev pub signature_tag : ℕ
+signature_tag = 0x3E
 
 -- "BC (1 to 862)": the finger templates of DFC103; "BC (1 to 16,000 bytes)": the facial image of DFC108
-abbrev pub biometricTag : ℕ
-biometricTag = 0xBC
+abbrev pub biometric_tag : ℕ
+biometric_tag = 0xBC
 
 -- "FE (0)": the error detection code, which ends an object
-abbrev pub endTag : ℕ
-endTag = 0xFE
+abbrev pub end_tag : ℕ
+end_tag = 0xFE
 
 -- ---- the rows
 
 -- What a row says of its field: its tag, its least and its greatest length, and whether it may be absent.
-abbrev pub rowTag : Row → ℕ
-rowTag r = r.0
+abbrev pub row_tag : Row → ℕ
+row_tag r = r.0
 
 abbrev pub least : Row → ℕ
 least r = r.1
@@ -75,8 +75,8 @@ least r = r.1
 abbrev pub greatest : Row → ℕ
 greatest r = r.2
 
-abbrev pub mayBeAbsent : Row → Bool
-mayBeAbsent r = r.3
+abbrev pub may_be_absent : Row → Bool
+may_be_absent r = r.3
 
 -- A field that has to be there, and one that may be absent.
 abbrev pub required : ℕ → ℕ → ℕ → Row
@@ -88,13 +88,13 @@ optional tag low high = record { 0 = tag; 1 = low; 2 = high; 3 = true }
 -- The rows with which the signed and the unsigned object begin: 30 (25 bytes), and around it "EE with 2 bytes may stand
 -- before 30. Straight after 30 may stand 31 (4 bytes), 32 (4) and 33 (9), in this order, each at most once. .. The
 -- unsigned object gains the same four." (document 02, request 5)
-abbrev pub firstRows : List Row
-firstRows =
-    optional bufferLengthTag 2 2
-    ∷ required fascnTag fascnBytes fascnBytes
-    ∷ optional agencyTag 4 4
-    ∷ optional organizationTag 4 4
-    ∷ optional dunsTag 9 9
+abbrev pub first_rows : List Row
+first_rows =
+    optional buffer_length_tag 2 2
+    ∷ required fascn_tag fascn_bytes fascn_bytes
+    ∷ optional agency_tag 4 4
+    ∷ optional organization_tag 4 4
+    ∷ optional duns_tag 9 9
     ∷ []
 
 -- 5FC102, signed: 30 (25 bytes), 34 (16), 35 (8), 3E (1 to 2,816), FE (0).
@@ -102,21 +102,21 @@ firstRows =
 -- DFC103, fingers: BC (1 to 862), FE (0, may be absent).
 -- "a facial image, object DFC108: BC (1 to 16,000 bytes), then FE (0 bytes, may be absent)" (document 02, request 7).
 unfoldable pub rows_of : Kind → List Row
-rows_of Signed = firstRows ++ (required guidTag 16 16 ∷ required expiryTag dateDigits dateDigits ∷ required signatureTag 1 2816 ∷ required endTag 0 0 ∷ [])
-rows_of Unsigned = firstRows ++ (optional guidTag 16 16 ∷ required expiryTag dateDigits dateDigits ∷ required endTag 0 0 ∷ [])
-rows_of Fingers = required biometricTag 1 862 ∷ optional endTag 0 0 ∷ []
-rows_of Picture = required biometricTag 1 16000 ∷ optional endTag 0 0 ∷ []
+rows_of Signed = first_rows ++ (required guid_tag 16 16 ∷ required expiry_tag date_digits date_digits ∷ required signature_tag 1 2816 ∷ required end_tag 0 0 ∷ [])
+rows_of Unsigned = first_rows ++ (optional guid_tag 16 16 ∷ required expiry_tag date_digits date_digits ∷ required end_tag 0 0 ∷ [])
+rows_of Fingers = required biometric_tag 1 862 ∷ optional end_tag 0 0 ∷ []
+rows_of Picture = required biometric_tag 1 16000 ∷ optional end_tag 0 0 ∷ []
 
 -- The most fields that an object has. A layout has as many rows, and an answer as many parts.
-abbrev pub mostFields : ℕ
-mostFields = 9
+abbrev pub most_fields : ℕ
+most_fields = 9
 
 -- The tag by which GET DATA asks for the object.
-unfoldable pub objectTag : Kind → List ℕ
-objectTag Signed = 0x5F ∷ 0xC1 ∷ 0x02 ∷ []
-objectTag Unsigned = 0x5F ∷ 0xC1 ∷ 0x04 ∷ []
-objectTag Fingers = 0xDF ∷ 0xC1 ∷ 0x03 ∷ []
-objectTag Picture = 0xDF ∷ 0xC1 ∷ 0x08 ∷ []
+unfoldable pub object_tag : Kind → List ℕ
+object_tag Signed = 0x5F ∷ 0xC1 ∷ 0x02 ∷ []
+object_tag Unsigned = 0x5F ∷ 0xC1 ∷ 0x04 ∷ []
+object_tag Fingers = 0xDF ∷ 0xC1 ∷ 0x03 ∷ []
+object_tag Picture = 0xDF ∷ 0xC1 ∷ 0x08 ∷ []
 
 -- ---- the fields
 
@@ -129,7 +129,7 @@ empty = part 0 0
 
 -- The row's field is absent at a place: the next row's is looked for there.
 abbrev pub absent : Row → ℕ → Field
-absent r at = record { ok = mayBeAbsent r; part = empty; next = at }
+absent r at = record { ok = may_be_absent r; part = empty; next = at }
 
 -- The row's field is the TLV at a place, its value from `start` on.
 abbrev pub found : ℕ → Row → ℕ → ℕ → ℕ → Field
@@ -138,90 +138,90 @@ found base r at start len =
 
 -- The row's field at place `at` of a value that begins at place `base` of the whole, by the header of the TLV that
 -- stands there.
-unfoldable pub fieldFrom : Header → ℕ → Row → ℕ → Field
-fieldFrom Malformed base r at = absent r at
-fieldFrom (Whole tag nested start len) base r at =
-    cond (eqb tag (rowTag r)) (found base r at start len) (absent r at)
+unfoldable pub field_from : Header → ℕ → Row → ℕ → Field
+field_from Malformed base r at = absent r at
+field_from (Whole tag nested start len) base r at =
+    cond (eqb tag (row_tag r)) (found base r at start len) (absent r at)
 
-unfoldable pub rowField : List ℕ → ℕ → Row → ℕ → Field
-rowField v base r at = fieldFrom (headerOf (drop at v)) base r at
+unfoldable pub row_field : List ℕ → ℕ → Row → ℕ → Field
+row_field v base r at = field_from (header_of (drop at v)) base r at
 
 -- The fields of the rows from place `at` of the value v on: whether each is as its row asks and nothing follows the
 -- last, and their parts.
-unfoldable pub fieldsFrom : List ℕ → ℕ → List Row → ℕ → Bool × List Part
-fieldsFrom v base [] at = (eqb at (length v), [])
-fieldsFrom v base (r ∷ rs) at =
-    let f = rowField v base r at in
-    let after = fieldsFrom v base rs f.next in
+unfoldable pub fields_from : List ℕ → ℕ → List Row → ℕ → Bool × List Part
+fields_from v base [] at = (eqb at (length v), [])
+fields_from v base (r ∷ rs) at =
+    let f = row_field v base r at in
+    let after = fields_from v base rs f.next in
     (f.ok && after.0, f.part ∷ after.1)
 
 -- ---- the object
 
 -- "object malformed, 20"
-abbrev pub malformedObject : ℕ
-malformedObject = 20
+abbrev pub malformed_object : ℕ
+malformed_object = 20
 
 -- Cause 0 and the parts, those past the last field empty; or that cause, and all parts empty.
-unfoldable pub fieldsAnswer : Bool × List Part → ℕ × List Part
-fieldsAnswer f = cond f.0 (0, f.1 ++ replicate (mostFields - length f.1) empty) (malformedObject, replicate mostFields empty)
+unfoldable pub fields_answer : Bool × List Part → ℕ × List Part
+fields_answer f = cond f.0 (0, f.1 ++ replicate (most_fields - length f.1) empty) (malformed_object, replicate most_fields empty)
 
 -- By the header of the one TLV 53 that s is: its value is handed to the fields, and parts are those of the whole.
-unfoldable pub objectFrom : Header → Kind → List ℕ → ℕ × List Part
-objectFrom Malformed k s = (malformedObject, replicate mostFields empty)
-objectFrom (Whole tag nested start len) k s = fieldsAnswer (fieldsFrom (take len (drop start s)) start (rows_of k) 0)
+unfoldable pub object_from : Header → Kind → List ℕ → ℕ × List Part
+object_from Malformed k s = (malformed_object, replicate most_fields empty)
+object_from (Whole tag nested start len) k s = fields_answer (fields_from (take len (drop start s)) start (rows_of k) 0)
 
 -- What the object reader gives of the object s.
-unfoldable pub objectOf : Kind → List ℕ → ℕ × List Part
-objectOf k s = objectFrom (onlyOf dataObjectTag s) k s
+unfoldable pub object_of : Kind → List ℕ → ℕ × List Part
+object_of k s = object_from (only_of data_object_tag s) k s
 
 -- The part of the field with a tag, among the parts of some rows' fields.
-unfoldable pub partIn : List Row → List Part → ℕ → Part
-partIn [] ps tag = empty
-partIn (r ∷ rs) [] tag = empty
-partIn (r ∷ rs) (p ∷ ps) tag = cond (eqb (rowTag r) tag) p (partIn rs ps tag)
+unfoldable pub part_in : List Row → List Part → ℕ → Part
+part_in [] ps tag = empty
+part_in (r ∷ rs) [] tag = empty
+part_in (r ∷ rs) (p ∷ ps) tag = cond (eqb (row_tag r) tag) p (part_in rs ps tag)
 
 -- The bytes of a part of s.
 unfoldable pub bytes_at : List ℕ → Part → List ℕ
 bytes_at s p = take p.len (drop p.start s)
 
 -- The part of the field with a tag in the object s, and its value.
-abbrev pub fieldPart : Kind → ℕ → List ℕ → Part
-fieldPart k tag s = partIn (rows_of k) (objectOf k s).1 tag
+abbrev pub field_part : Kind → ℕ → List ℕ → Part
+field_part k tag s = part_in (rows_of k) (object_of k s).1 tag
 
-unfoldable pub fieldValue : Kind → ℕ → List ℕ → List ℕ
-fieldValue k tag s = bytes_at s (fieldPart k tag s)
+unfoldable pub field_value : Kind → ℕ → List ℕ → List ℕ
+field_value k tag s = bytes_at s (field_part k tag s)
 
 -- ---- what laws say of an object
 
 -- A length that a row allows: of its field, or none where the field may be absent.
 abbrev pub allowed : Row → ℕ → Bool
-allowed r n = (leb (least r) n && leb n (greatest r)) || (mayBeAbsent r && eqb n 0)
+allowed r n = (leb (least r) n && leb n (greatest r)) || (may_be_absent r && eqb n 0)
 
 -- The row with a tag; where there is none, one whose field is absent.
 unfoldable pub row_in : List Row → ℕ → Row
 row_in [] tag = optional tag 0 0
-row_in (r ∷ rs) tag = cond (eqb (rowTag r) tag) r (row_in rs tag)
+row_in (r ∷ rs) tag = cond (eqb (row_tag r) tag) r (row_in rs tag)
 
 -- What the encoder makes for rows: the encodings of their fields, one after another, and the values of these. A field
 -- is left out, its value then [], only where its row says that it may be absent; a value that is given has a length
 -- that its row allows and that its form, of so many bytes, has room for.
 pub data Made : List Row → List ℕ → List (List ℕ) → Type 0 where
   no_rows : Made [] [] []
-  left_out : {r : Row} {rs : List Row} {v : List ℕ} {values : List (List ℕ)} → mayBeAbsent r ≡ true → Made rs v values → Made (r ∷ rs) v ([] ∷ values)
+  left_out : {r : Row} {rs : List Row} {v : List ℕ} {values : List (List ℕ)} → may_be_absent r ≡ true → Made rs v values → Made (r ∷ rs) v ([] ∷ values)
   given : {r : Row} {rs : List Row} {v : List ℕ} {values : List (List ℕ)} (form : ℕ) (value : List ℕ) → least r ≤ length value → length value ≤ greatest r
-      → fitsForm form (length value) ≡ true → Made rs v values → Made (r ∷ rs) (encoded form (rowTag r) value ++ v) (value ∷ values)
+      → fits_form form (length value) ≡ true → Made rs v values → Made (r ∷ rs) (encoded form (row_tag r) value ++ v) (value ∷ values)
 
 -- Of values that are given for rows, that of the row with a tag; [] where no row has it.
-unfoldable pub valueIn : List Row → List (List ℕ) → ℕ → List ℕ
-valueIn [] values tag = []
-valueIn (r ∷ rs) [] tag = []
-valueIn (r ∷ rs) (value ∷ values) tag = cond (eqb (rowTag r) tag) value (valueIn rs values tag)
+unfoldable pub value_in : List Row → List (List ℕ) → ℕ → List ℕ
+value_in [] values tag = []
+value_in (r ∷ rs) [] tag = []
+value_in (r ∷ rs) (value ∷ values) tag = cond (eqb (row_tag r) tag) value (value_in rs values tag)
 
 -- ---- the answer of the code: document 01's cause of each case, and the parts beside it
 
-abbrev pub objectNumber : ObjectAnswer → ℕ
-objectNumber object-answers.Accepted = 0
-objectNumber object-answers.Malformed = malformedObject
+abbrev pub object_number : ObjectAnswer → ℕ
+object_number object-answers.Accepted = 0
+object_number object-answers.Malformed = malformed_object
 
-abbrev pub objectAnswer : Object → ℕ × List Part
-objectAnswer r = (objectNumber r.answer, r.parts)
+abbrev pub object_answer : Object → ℕ × List Part
+object_answer r = (object_number r.answer, r.parts)

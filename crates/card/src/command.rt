@@ -1,17 +1,17 @@
 // Commands and status words (document 01, section Commands; document 02, request 1): SELECT, GET DATA and GET RESPONSE written to the front of a lent buffer.
 ghost use Rattle.std.specs.Prelude.{◌≡◌};
-ghost use Rattle.card.specs.Object.{objectTag};
-ghost use Rattle.card.specs.Command.{goodAid, commandNumber, commandAnswer, selectOf, getDataOf, getResponseOf, statusOf};
+ghost use Rattle.card.specs.Object.{object_tag};
+ghost use Rattle.card.specs.Command.{good_aid, command_number, command_answer, select_of, get_orata_of, get_response_of, status_of};
 
 use crate::object::Kind;
 use common::slice;
 
-// The least and the most bytes of an AID; `aidLeast` and `aidMost` in the definitions.
+// The least and the most bytes of an AID; `aid_least` and `aid_most` in the definitions.
 pub const AID_LEAST: usize = 5;
 
 pub const AID_MOST: usize = 16;
 
-// What a command answers: how many bytes it wrote, or why it wrote none. `commandAnswer` gives document 01's number and the count of each.
+// What a command answers: how many bytes it wrote, or why it wrote none. `command_answer` gives document 01's number and the count of each.
 #[derive(Drop)]
 pub enum CommandAnswer {
     Written(usize),
@@ -24,7 +24,7 @@ pub enum CommandAnswer {
 impl CommandAnswer {
     // Document 01's number of the answer, 0 where the command is written.
     pub fn number(self) -> u8
-        ensures { result ≡ commandNumber self }
+        ensures { result ≡ command_number self }
     {
         match self {
             CommandAnswer::Written(_) => 0,
@@ -36,7 +36,7 @@ impl CommandAnswer {
 
 // Whether an AID may have n bytes.
 pub fn good_aid(n: usize) -> bool
-    ensures { result ≡ goodAid n }
+    ensures { result ≡ good_aid n }
 {
     (AID_LEAST <= n) & (n <= AID_MOST)
 }
@@ -46,7 +46,7 @@ pub const FIRST_LE: u8 = 0x00;
 
 // SELECT: 00 A4 04 00, AID length, AID, last byte.
 pub fn select(aid: &[u8], last: u8, out: &mut [u8]) -> CommandAnswer
-    ensures { (commandAnswer result, out.new) ≡ selectOf aid.now last out.old }
+    ensures { (command_answer result, out.new) ≡ select_of aid.now last out.old }
 {
     let n = aid.len();
     if !good_aid(n) {
@@ -67,7 +67,7 @@ pub fn select(aid: &[u8], last: u8, out: &mut [u8]) -> CommandAnswer
 
 // The tag of an object, three bytes.
 fn object_tag(kind: Kind) -> [u8; 3]
-    ensures { result ≡ objectTag kind }
+    ensures { result ≡ object_tag kind }
 {
     match kind {
         Kind::Signed => [0x5F, 0xC1, 0x02],
@@ -77,7 +77,7 @@ fn object_tag(kind: Kind) -> [u8; 3]
     }
 }
 
-// The bytes of SELECT beside its AID, and the most that a command has, which is SELECT with the longest AID; `selectBeside` and `commandMost` in the definitions.
+// The bytes of SELECT beside its AID, and the most that a command has, which is SELECT with the longest AID; `select_beside` and `command_most` in the definitions.
 const SELECT_BYTES: usize = 6;
 
 pub const COMMAND_MOST: usize = AID_MOST + SELECT_BYTES;
@@ -89,7 +89,7 @@ const GET_RESPONSE_BYTES: usize = 5;
 
 // GET DATA: 00 CB 3F FF 05 5C 03, three tag bytes, last byte.
 pub fn get_data(kind: Kind, last: u8, out: &mut [u8]) -> CommandAnswer
-    ensures { (commandAnswer result, out.new) ≡ getDataOf kind last out.old }
+    ensures { (command_answer result, out.new) ≡ get_orata_of kind last out.old }
 {
     if out.len() < GET_DATA_BYTES {
         return CommandAnswer::ShortBuffer;
@@ -104,7 +104,7 @@ pub fn get_data(kind: Kind, last: u8, out: &mut [u8]) -> CommandAnswer
 
 // GET RESPONSE: 00 C0 00 00, then the second status byte of the answer just taken, which was a 61 or a 6C.
 pub fn get_response(second: u8, out: &mut [u8]) -> CommandAnswer
-    ensures { (commandAnswer result, out.new) ≡ getResponseOf second out.old }
+    ensures { (command_answer result, out.new) ≡ get_response_of second out.old }
 {
     if out.len() < GET_RESPONSE_BYTES {
         return CommandAnswer::ShortBuffer;
@@ -126,7 +126,7 @@ pub enum Status {
 
 // The status word s; other where s is not two bytes.
 pub fn status_of(s: &[u8]) -> Status
-    ensures { result ≡ statusOf s.now }
+    ensures { result ≡ status_of s.now }
 {
     if s.len() != 2 {
         return Status::Other;

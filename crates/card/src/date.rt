@@ -1,14 +1,14 @@
 // Dates (document 01, section Objects): eight ASCII digits YYYYMMDD of a real Gregorian date, year 0001 to 9999, as the number that they spell.
 ghost use Rattle.std.specs.Prelude.{◌≡◌};
-ghost use Rattle.card.specs.Date.{leapYear, daysIn, realDate, dateAnswer, dateOf};
+ghost use Rattle.card.specs.Date.{leap_year, days_in, real_date, date_answer, date_of};
 
-// The bytes of field 35, a digit each; `dateDigits` in the definitions.
+// The bytes of field 35, a digit each; `date_digits` in the definitions.
 pub(crate) const DATE_DIGITS: usize = 8;
 
-// Document 01's cause of an ill-formed date; `illFormedDate` in the definitions.
+// Document 01's cause of an ill-formed date; `ill_formed_date` in the definitions.
 pub const ILL_FORMED_DATE: u8 = 22;
 
-// What date answers: the number YYYYMMDD, or that the bytes are no real date. `dateAnswer` gives document 01's cause of each.
+// What date answers: the number YYYYMMDD, or that the bytes are no real date. `date_answer` gives document 01's cause of each.
 #[derive(Drop)]
 pub enum Date {
     Real(u32),
@@ -18,7 +18,7 @@ pub enum Date {
 impl Date {
     // Document 01's cause, 0 where the date is real.
     pub fn number(self) -> u8
-        ensures { result ≡ (dateAnswer self).0 }
+        ensures { result ≡ (date_answer self).0 }
     {
         match self {
             Date::Real(_) => 0,
@@ -28,13 +28,13 @@ impl Date {
 }
 
 fn leap_year(y: u32) -> bool
-    ensures { result ≡ leapYear y }
+    ensures { result ≡ leap_year y }
 {
     (y % 4 == 0) & (!(y % 100 == 0) | (y % 400 == 0))
 }
 
 fn days_in(y: u32, m: u32) -> u32
-    ensures { result ≡ daysIn y m }
+    ensures { result ≡ days_in y m }
 {
     if m == 2 {
         return if leap_year(y) { 29 } else { 28 };
@@ -48,7 +48,7 @@ fn days_in(y: u32, m: u32) -> u32
 
 // Whether n is YYYYMMDD of a real date.
 pub fn real(n: u32) -> bool
-    ensures { result ≡ realDate n }
+    ensures { result ≡ real_date n }
 {
     let y = n / 10000;
     let m = n / 100 % 100;
@@ -64,7 +64,7 @@ pub fn real(n: u32) -> bool
 
 // The date that eight ASCII digits spell.
 pub fn read(s: &[u8]) -> Date
-    ensures { dateAnswer result ≡ dateOf s.now }
+    ensures { date_answer result ≡ date_of s.now }
 {
     if s.len() != DATE_DIGITS {
         return Date::Unreal;

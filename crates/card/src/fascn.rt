@@ -5,14 +5,14 @@ pub mod counts;
 mod order;
 
 ghost use Rattle.std.specs.Prelude.{◌≡◌, not, [], ◌∷◌, eqb};
-ghost use Rattle.common.specs.Lists.{isIn, sameBytes};
-ghost use Rattle.common.specs.Refusal.{refusalOf};
-ghost use Rattle.card.specs.Fascn.{unpackNumber, packNumber, unpacked, packed, unpackAnswer, unpackOf, packOf, keyOf};
+ghost use Rattle.common.specs.Lists.{is_in, same_bytes};
+ghost use Rattle.common.specs.Refusal.{refusal_of};
+ghost use Rattle.card.specs.Fascn.{unpack_number, pack_number, unpacked, packed, unpack_answer, unpack_of, pack_of, key_of};
 
 use crate::fascn::counts::{CHECK_PLACE, DIGITS, FASCN_BYTES, KEY_DIGITS};
 use common::slice;
 
-// What unpack answers: the digits, or the first fault of document 01's list. `unpackNumber` gives the number of each.
+// What unpack answers: the digits, or the first fault of document 01's list. `unpack_number` gives the number of each.
 #[derive(Drop)]
 pub enum UnpackAnswer {
     Accepted,
@@ -29,7 +29,7 @@ pub enum UnpackAnswer {
 impl UnpackAnswer {
     // Document 01's number of the answer, 0 where the bytes are accepted.
     pub fn number(self) -> u8
-        ensures { result ≡ unpackNumber self }
+        ensures { result ≡ unpack_number self }
     {
         match self {
             UnpackAnswer::Accepted => 0,
@@ -48,7 +48,7 @@ pub struct Unpacked {
     pub digits: [u8; DIGITS],
 }
 
-// What pack answers: the bytes, or that a digit is above 9. `packNumber` gives the number of each.
+// What pack answers: the bytes, or that a digit is above 9. `pack_number` gives the number of each.
 #[derive(Drop)]
 pub enum PackAnswer {
     Accepted,
@@ -59,7 +59,7 @@ pub enum PackAnswer {
 impl PackAnswer {
     // Document 01's number of the answer, 0 where the digits are accepted.
     pub fn number(self) -> u8
-        ensures { result ≡ packNumber self }
+        ensures { result ≡ pack_number self }
     {
         match self {
             PackAnswer::Accepted => 0,
@@ -83,7 +83,7 @@ pub struct Key(pub u64);
 impl Key {
     // Whether the key stands anywhere in the list. Every place is looked at: there is no early exit.
     pub fn listed(self, cancelled: &[u64]) -> bool
-        ensures { result ≡ isIn self.0 cancelled.now }
+        ensures { result ≡ is_in self.0 cancelled.now }
     {
         let wanted = self.0;
         let mut absent = true;
@@ -96,7 +96,7 @@ impl Key {
 
 // The answer for 25 bytes: the tests on their characters in document 01's order, and the digits where all are passed.
 fn answer_for(odd: bool, placed: bool, check: u8, expected: u8, digits: [u8; DIGITS]) -> Unpacked
-    ensures { unpacked result ≡ unpackAnswer (refusalOf ((16, not odd) ∷ (17, not placed) ∷ (18, not (eqb check expected)) ∷ [])) digits }
+    ensures { unpacked result ≡ unpack_answer (refusal_of ((16, not odd) ∷ (17, not placed) ∷ (18, not (eqb check expected)) ∷ [])) digits }
 {
     if !odd {
         return Unpacked {
@@ -124,7 +124,7 @@ fn answer_for(odd: bool, placed: bool, check: u8, expected: u8, digits: [u8; DIG
 
 // The 32 digits of a FASC-N, or the first fault of the bytes.
 pub fn unpack(s: &[u8]) -> Unpacked
-    ensures { unpacked result ≡ unpackOf s.now }
+    ensures { unpacked result ≡ unpack_of s.now }
 {
     if s.len() != FASCN_BYTES {
         return Unpacked {
@@ -142,7 +142,7 @@ pub fn unpack(s: &[u8]) -> Unpacked
 
 // The 25 bytes of the FASC-N with the digits d, or that one of them is above 9.
 pub fn pack(d: [u8; DIGITS]) -> Packed
-    ensures { packed result ≡ packOf d }
+    ensures { packed result ≡ pack_of d }
 {
     if !order::all_decimal(&d) {
         return Packed {
@@ -159,7 +159,7 @@ pub fn pack(d: [u8; DIGITS]) -> Packed
 
 // The key whose 16 digits are d.
 pub fn key_from(d: &[u8; KEY_DIGITS]) -> Key
-    ensures { result.0 ≡ keyOf d.now }
+    ensures { result.0 ≡ key_of d.now }
 {
     let mut n = 0u64;
     for k in 0..KEY_DIGITS {
@@ -170,7 +170,7 @@ pub fn key_from(d: &[u8; KEY_DIGITS]) -> Key
 
 // The key of the card whose 32 digits are d.
 pub fn key_of(d: [u8; DIGITS]) -> Key
-    ensures { result.0 ≡ keyOf d }
+    ensures { result.0 ≡ key_of d }
 {
     let mut first = [0u8; KEY_DIGITS];
     order::copy_run(&mut first, 0, &d, 0, KEY_DIGITS);
@@ -179,7 +179,7 @@ pub fn key_of(d: [u8; DIGITS]) -> Key
 
 // Two FASC-Ns are equal where all their bytes are.
 pub fn equal(a: &[u8], b: &[u8]) -> bool
-    ensures { result ≡ sameBytes a.now b.now }
+    ensures { result ≡ same_bytes a.now b.now }
 {
     slice::same(a, b)
 }

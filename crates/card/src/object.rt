@@ -1,8 +1,8 @@
 // Data objects (document 01, section Objects, with requests 5 and 7 of document 02): one TLV 53, whose value holds
 // one-byte-tag fields, each once, in the order of the object's rows.
 ghost use Rattle.std.specs.Prelude.{◌≡◌, [], ◌∷◌, ◌+◌, ◌≤◌, ◌<◌, ◌^◌, length};
-ghost use Rattle.card.specs.Object.{rows_of, rowField, fieldsFrom, fieldsAnswer, objectNumber, objectAnswer, objectOf, partIn};
-ghost use Rattle.card.specs.ObjectCode.{afterFirst, biometricLayout, layout_of};
+ghost use Rattle.card.specs.Object.{rows_of, row_field, fields_from, fields_answer, object_number, object_answer, object_of, part_in};
+ghost use Rattle.card.specs.ObjectCode.{after_first, biometric_layout, layout_of};
 
 use crate::date::DATE_DIGITS;
 use crate::fascn::counts::FASCN_BYTES;
@@ -21,7 +21,7 @@ pub enum Kind {
 
 // The tag of a data object, and those of its fields: the buffer length, the FASC-N, the agency code, the organization
 // identifier, the issuer's DUNS number, the GUID, the expiry date, the issuer's signature, and the finger templates or
-// the facial image. In the definitions they are `dataObjectTag`, `bufferLengthTag` and so on.
+// the facial image. In the definitions they are `data_object_tag`, `buffer_length_tag` and so on.
 pub const DATA_OBJECT_TAG: usize = 0x53;
 
 pub const BUFFER_LENGTH_TAG: u8 = 0xEE;
@@ -50,7 +50,7 @@ pub const END_TAG: u8 = 0xFE;
 #[derive(Drop)]
 pub(crate) struct Row(pub u8, pub usize, pub usize, pub bool);
 
-// The rows with which the signed and the unsigned object begin; `firstRows` in the definitions.
+// The rows with which the signed and the unsigned object begin; `first_rows` in the definitions.
 const BUFFER_LENGTH: Row = Row(BUFFER_LENGTH_TAG, 2, 2, true);
 
 const FASCN: Row = Row(FASCN_TAG, FASCN_BYTES, FASCN_BYTES, false);
@@ -66,7 +66,7 @@ const EXPIRY: Row = Row(EXPIRY_TAG, DATE_DIGITS, DATE_DIGITS, false);
 
 const END: Row = Row(END_TAG, 0, 0, false);
 
-// The most fields that an object has; `mostFields` in the definitions.
+// The most fields that an object has; `most_fields` in the definitions.
 pub const FIELDS: usize = 9;
 
 // No row of an object: it fills a layout up; `no_row` in the definitions.
@@ -96,10 +96,10 @@ pub(crate) struct Field {
     pub next: usize,
 }
 
-// Document 01's cause of a malformed object; `malformedObject` in the definitions.
+// Document 01's cause of a malformed object; `malformed_object` in the definitions.
 pub const MALFORMED_OBJECT: u8 = 20;
 
-// What parse answers. `objectNumber` gives document 01's cause.
+// What parse answers. `object_number` gives document 01's cause.
 #[derive(Drop)]
 pub enum ObjectAnswer {
     Accepted,
@@ -109,7 +109,7 @@ pub enum ObjectAnswer {
 impl ObjectAnswer {
     // Document 01's cause, 0 where the object is accepted.
     pub fn number(self) -> u8
-        ensures { result ≡ objectNumber self }
+        ensures { result ≡ object_number self }
     {
         match self {
             ObjectAnswer::Accepted => 0,
@@ -129,7 +129,7 @@ pub struct Object {
 
 // A layout that begins with the first rows and goes on with these; the first n of all are an object's.
 fn after_first(n: usize, sixth: Row, seventh: Row, eighth: Row, ninth: Row) -> Layout
-    ensures { result ≡ afterFirst n (sixth ∷ seventh ∷ eighth ∷ ninth ∷ []) }
+    ensures { result ≡ after_first n (sixth ∷ seventh ∷ eighth ∷ ninth ∷ []) }
 {
     Layout {
         n,
@@ -149,7 +149,7 @@ fn after_first(n: usize, sixth: Row, seventh: Row, eighth: Row, ninth: Row) -> L
 
 // The layout of an object that has the field BC, of at most so many bytes, and after it FE, which may be absent.
 fn biometric(most: usize) -> Layout
-    ensures { result ≡ biometricLayout most }
+    ensures { result ≡ biometric_layout most }
 {
     Layout {
         n: 2,
@@ -188,7 +188,7 @@ fn layout_of(kind: Kind) -> Layout
 // The field of a row at place `at` of the value v, which begins at `base` in the whole.
 fn next_field(v: &[u8], base: usize, row: Row, at: usize) -> Field
     requires { (at ≤ length v.now) × (base + length v.now < 2 ^ 32) }
-    ensures is { result ≡ rowField v.now base row at }
+    ensures is { result ≡ row_field v.now base row at }
     ensures inside { result.next ≤ length v.now }
 {
     let absent = Field {
@@ -229,7 +229,7 @@ fn next_field(v: &[u8], base: usize, row: Row, at: usize) -> Field
 // the last.
 fn fields(v: &[u8], base: usize, kind: Kind) -> Object
     requires { base + length v.now < 2 ^ 32 }
-    ensures { objectAnswer result ≡ fieldsAnswer (fieldsFrom v.now base (rows_of kind) 0) }
+    ensures { object_answer result ≡ fields_answer (fields_from v.now base (rows_of kind) 0) }
 {
     let l = layout_of(kind);
     let n = l.n;
@@ -259,7 +259,7 @@ fn fields(v: &[u8], base: usize, kind: Kind) -> Object
 
 // The fields of the object s.
 pub fn parse(kind: Kind, s: &[u8]) -> Object
-    ensures { objectAnswer result ≡ objectOf kind s.now }
+    ensures { object_answer result ≡ object_of kind s.now }
 {
     match tlv::only(s, DATA_OBJECT_TAG) {
         Header::Whole {
@@ -277,7 +277,7 @@ pub fn parse(kind: Kind, s: &[u8]) -> Object
 
 // Of the parts that parse gave, that of the field with a tag; the empty part where no row of the object has the tag.
 pub fn part_of(kind: Kind, parts: [Part; FIELDS], tag: u8) -> Part
-    ensures { result ≡ partIn (rows_of kind) parts tag }
+    ensures { result ≡ part_in (rows_of kind) parts tag }
 {
     let l = layout_of(kind);
     let n = l.n;

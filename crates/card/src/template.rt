@@ -1,30 +1,30 @@
 // The SELECT answer (document 01, section Objects): one TLV 61, whose value is whole TLVs, nested ones too, and
 // directly holds just one 4F.
 ghost use Rattle.std.specs.Prelude.{◌≡◌};
-ghost use Rattle.card.specs.Template.{templateNumber, templateOf};
+ghost use Rattle.card.specs.Template.{template_number, template_of};
 ghost use Rattle.card.specs.TemplateCode.{noted, walked};
 
 use crate::tlv;
 use crate::tlv::Header;
 use common::slice;
 
-// The tag of a template, and that of an application identifier in it; `templateTag` and `aidTag` in the definitions.
+// The tag of a template, and that of an application identifier in it; `template_tag` and `aid_tag` in the definitions.
 pub const TEMPLATE_TAG: usize = 0x61;
 
 pub const AID_TAG: usize = 0x4F;
 
 // The least and the most bytes of the one 4F, and the levels left for the value of a template, which is depth 1 of 4;
-// `heldLeast`, `heldMost` and `levelsLeft` in the definitions.
+// `held_least`, `held_most` and `levels_left` in the definitions.
 const HELD_LEAST: usize = 1;
 
 const HELD_MOST: usize = 16;
 
 const LEVELS_LEFT: usize = 3;
 
-// Document 01's cause of a malformed template; `malformedTemplate` in the definitions.
+// Document 01's cause of a malformed template; `malformed_template` in the definitions.
 const MALFORMED_TEMPLATE: u8 = 19;
 
-// What template answers. `templateNumber` gives document 01's cause.
+// What template answers. `template_number` gives document 01's cause.
 #[derive(Drop)]
 pub enum TemplateAnswer {
     Accepted,
@@ -34,7 +34,7 @@ pub enum TemplateAnswer {
 impl TemplateAnswer {
     // Document 01's cause, 0 where the template is accepted.
     pub fn number(self) -> u8
-        ensures { result ≡ templateNumber self }
+        ensures { result ≡ template_number self }
     {
         match self {
             TemplateAnswer::Accepted => 0,
@@ -105,7 +105,7 @@ fn walk(s: &[u8], depth: usize) -> Walked
 
 // Whether s is a template as document 01 asks.
 pub fn template(s: &[u8]) -> TemplateAnswer
-    ensures { templateNumber result ≡ templateOf s.now }
+    ensures { template_number result ≡ template_of s.now }
 {
     match tlv::only(s, TEMPLATE_TAG) {
         Header::Whole {

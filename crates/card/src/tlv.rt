@@ -1,6 +1,6 @@
 // TLVs (document 01, section Objects): the header of the TLV at the front of a slice.
 ghost use Rattle.std.specs.Prelude.{◌≡◌, ◌<◌};
-ghost use Rattle.card.specs.Tlv.{endingOf, afterTag, headerOf, onlyOf};
+ghost use Rattle.card.specs.Tlv.{ending_of, after_tag, header_of, only_of};
 
 use common::slice;
 
@@ -20,7 +20,7 @@ pub enum Header {
 // The header of a TLV whose value starts at a place of s and has a length.
 fn ending(s: &[u8], tag: usize, nested: bool, start: usize, len: usize) -> Header
     requires { (start < 8) × (len < 65536) }
-    ensures { result ≡ endingOf s.now tag nested start len }
+    ensures { result ≡ ending_of s.now tag nested start len }
 {
     if s.len() < start + len {
         Header::Malformed
@@ -37,7 +37,7 @@ fn ending(s: &[u8], tag: usize, nested: bool, start: usize, len: usize) -> Heade
 // The header of the TLV at the front of s, whose tag takes t bytes: its length is one byte, 81 and one, or 82 and two.
 fn after_tag(s: &[u8], t: usize, tag: usize, nested: bool) -> Header
     requires { t < 4 }
-    ensures { result ≡ afterTag s.now t tag nested }
+    ensures { result ≡ after_tag s.now t tag nested }
 {
     let a = slice::byte(s, t);
     if a < 0x80 {
@@ -57,7 +57,7 @@ fn after_tag(s: &[u8], t: usize, tag: usize, nested: bool) -> Header
 // The header of the TLV at the front of s: its tag is one, two or three bytes. A byte past the end reads as 0; that all
 // lies within s is tested last.
 pub fn header_of(s: &[u8]) -> Header
-    ensures { result ≡ headerOf s.now }
+    ensures { result ≡ header_of s.now }
 {
     let a = slice::byte(s, 0);
     let nested = a / 0x20 % 2 == 1;
@@ -83,7 +83,7 @@ pub fn header_of(s: &[u8]) -> Header
 // The header of the TLV at the front of s, as header_of gives it. Most have a tag of one byte and a length of one byte:
 // these are read here.
 pub(crate) fn next_header(s: &[u8]) -> Header
-    ensures { result ≡ headerOf s.now }
+    ensures { result ≡ header_of s.now }
 {
     let a = slice::byte(s, 0);
     if a % 32 != 31 {
@@ -97,7 +97,7 @@ pub(crate) fn next_header(s: &[u8]) -> Header
 
 // The header of s where s is one TLV with that tag and nothing after it.
 pub fn only(s: &[u8], wanted: usize) -> Header
-    ensures { result ≡ onlyOf wanted s.now }
+    ensures { result ≡ only_of wanted s.now }
 {
     match header_of(s) {
         Header::Whole {

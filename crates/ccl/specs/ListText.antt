@@ -3,9 +3,9 @@
 -- a key. Both give the count of keys, and places past the last key stay."
 -- Assumes nothing.
 use Rattle.std.specs.Prelude.{Bool, cond, not, List, [], ◌∷◌, ◌++◌, ℕ, ◌+◌, ◌*◌, ◌/◌, eqb, ltb, length, get_or, take, drop}
-use Rattle.common.specs.Lists.{all, passing, overFront, written}
-use Rattle.common.specs.Refusal.{refusalOf}
-use Rattle.ccl.specs.Line.{keyLimit, goodLine, line_key, line_of}
+use Rattle.common.specs.Lists.{all, passing, over_front, written}
+use Rattle.common.specs.Refusal.{refusal_of}
+use Rattle.ccl.specs.Line.{key_limit, good_line, line_key, line_of}
 use Rattle.ccl.specs.declared.list.ListRead.{ListRead}
 use Rattle.ccl.specs.declared.list.ListRead.TheVariants as List-read
 use Rattle.ccl.specs.declared.list.ListWritten.{ListWritten}
@@ -13,20 +13,20 @@ use Rattle.ccl.specs.declared.list.ListWritten.TheVariants as list_written
 
 -- ---- lines
 
-abbrev pub lineSize : ℕ
-lineSize = 32
+abbrev pub line_size : ℕ
+line_size = 32
 
 -- Line i of the text, counted from 0, where those before it are good: each has 32 bytes.
 unfoldable pub line_at : List ℕ → ℕ → List ℕ
-line_at text i = take lineSize (drop (lineSize * i) text)
+line_at text i = take line_size (drop (line_size * i) text)
 
 -- How many good lines the text begins with.
-unfoldable pub goodLines : List ℕ → ℕ
-goodLines text = passing (length text / lineSize) (λ i. goodLine (line_at text i))
+unfoldable pub good_lines : List ℕ → ℕ
+good_lines text = passing (length text / line_size) (λ i. good_line (line_at text i))
 
 -- Every line is good: nothing follows the good lines.
-unfoldable pub wellFormed : List ℕ → Bool
-wellFormed text = eqb (lineSize * goodLines text) (length text)
+unfoldable pub well_formed : List ℕ → Bool
+well_formed text = eqb (line_size * good_lines text) (length text)
 
 -- The key of line i.
 unfoldable pub key_at : List ℕ → ℕ → ℕ
@@ -34,31 +34,31 @@ key_at text i = line_key (line_at text i)
 
 -- ---- read
 
-unfoldable pub readRefusal : List ℕ → ℕ → ℕ
-readRefusal text room = refusalOf ((20, not (wellFormed text)) ∷ (21, ltb room (goodLines text)) ∷ [])
+unfoldable pub read_refusal : List ℕ → ℕ → ℕ
+read_refusal text room = refusal_of ((20, not (well_formed text)) ∷ (21, ltb room (good_lines text)) ∷ [])
 
 -- Beside 0 the count of keys, beside 20 the number of the first malformed line, beside 21 nothing (0).
-abbrev pub besideRead : ℕ → ℕ → ℕ × ℕ
-besideRead k lines = (k, cond (eqb k 0) lines (cond (eqb k 20) (lines + 1) 0))
+abbrev pub beside_read : ℕ → ℕ → ℕ × ℕ
+beside_read k lines = (k, cond (eqb k 0) lines (cond (eqb k 20) (lines + 1) 0))
 
 unfoldable pub read_of : List ℕ → ℕ → ℕ × ℕ
-read_of text room = besideRead (readRefusal text room) (goodLines text)
+read_of text room = beside_read (read_refusal text room) (good_lines text)
 
 -- The places then.
-unfoldable pub keysAfter : List ℕ → List ℕ → List ℕ
-keysAfter text keys = cond (eqb (readRefusal text (length keys)) 0) (written keys 0 (goodLines text) (key_at text)) keys
+unfoldable pub keys_after : List ℕ → List ℕ → List ℕ
+keys_after text keys = cond (eqb (read_refusal text (length keys)) 0) (written keys 0 (good_lines text) (key_at text)) keys
 
 -- ---- write
 
-unfoldable pub smallKeys : List ℕ → Bool
-smallKeys keys = all (length keys) (λ i. ltb (get_or keys i 0) keyLimit)
+unfoldable pub small_keys : List ℕ → Bool
+small_keys keys = all (length keys) (λ i. ltb (get_or keys i 0) key_limit)
 
 -- "output under 32 bytes a key", compared by division
-unfoldable pub writeRefusal : List ℕ → ℕ → ℕ
-writeRefusal keys room = refusalOf ((22, not (smallKeys keys)) ∷ (21, ltb (room / lineSize) (length keys)) ∷ [])
+unfoldable pub write_refusal : List ℕ → ℕ → ℕ
+write_refusal keys room = refusal_of ((22, not (small_keys keys)) ∷ (21, ltb (room / line_size) (length keys)) ∷ [])
 
-unfoldable pub writeOf : List ℕ → ℕ → ℕ × ℕ
-writeOf keys room = let k = writeRefusal keys room in (k, cond (eqb k 0) (length keys) 0)
+unfoldable pub write_of : List ℕ → ℕ → ℕ × ℕ
+write_of keys room = let k = write_refusal keys room in (k, cond (eqb k 0) (length keys) 0)
 
 -- The lines of the keys, one after another.
 unfoldable pub lines_of : List ℕ → List ℕ
@@ -66,17 +66,17 @@ lines_of [] = []
 lines_of (key ∷ keys) = line_of key ++ lines_of keys
 
 -- The bytes then.
-unfoldable pub textAfter : List ℕ → List ℕ → List ℕ
-textAfter keys out = cond (eqb (writeRefusal keys (length out)) 0) (overFront (lines_of keys) out) out
+unfoldable pub text_after : List ℕ → List ℕ → List ℕ
+text_after keys out = cond (eqb (write_refusal keys (length out)) 0) (over_front (lines_of keys) out) out
 
 -- ---- the answers of the code: document 01's number of each case, and the number beside it
 
-abbrev pub readAnswer : ListRead → ℕ × ℕ
-readAnswer (List-read.Keys n) = (0, n)
-readAnswer (List-read.Malformed n) = (20, n)
-readAnswer List-read.TooFewPlaces = (21, 0)
+abbrev pub read_answer : ListRead → ℕ × ℕ
+read_answer (List-read.Keys n) = (0, n)
+read_answer (List-read.Malformed n) = (20, n)
+read_answer List-read.TooFewPlaces = (21, 0)
 
-abbrev pub writeAnswer : ListWritten → ℕ × ℕ
-writeAnswer (list_written.Keys n) = (0, n)
-writeAnswer list_written.KeyTooLarge = (22, 0)
-writeAnswer list_written.ShortBuffer = (21, 0)
+abbrev pub write_answer : ListWritten → ℕ × ℕ
+write_answer (list_written.Keys n) = (0, n)
+write_answer list_written.KeyTooLarge = (22, 0)
+write_answer list_written.ShortBuffer = (21, 0)

@@ -3,8 +3,8 @@
 -- ascending; 26 where the output is shorter than the merged count, tested next. The output is untouched in both."
 -- Assumes nothing.
 use Rattle.std.specs.Prelude.{Bool, cond, not, ◌&&◌, List, [], ◌∷◌, ℕ, suc, ◌-◌, eqb, ltb, length, get_or}
-use Rattle.common.specs.Lists.{all, overFront}
-use Rattle.common.specs.Refusal.{refusalOf}
+use Rattle.common.specs.Lists.{all, over_front}
+use Rattle.common.specs.Refusal.{refusal_of}
 use Rattle.ccl.specs.declared.merge.ListMerged.{ListMerged}
 use Rattle.ccl.specs.declared.merge.ListMerged.TheVariants as list-merged
 
@@ -20,19 +20,19 @@ merged (x ∷ a) [] = x ∷ a
 merged (x ∷ a) (y ∷ b) = cond (ltb x y) (x ∷ merged a (y ∷ b)) (cond (ltb y x) (y ∷ merged (x ∷ a) b) (x ∷ merged a b))
 
 -- "tested next": the two conditions stand in this order
-unfoldable pub mergeRefusal : List ℕ → List ℕ → ℕ → ℕ
-mergeRefusal a b room = refusalOf ((25, not (ascending a && ascending b)) ∷ (26, ltb room (length (merged a b))) ∷ [])
+unfoldable pub merge_refusal : List ℕ → List ℕ → ℕ → ℕ
+merge_refusal a b room = refusal_of ((25, not (ascending a && ascending b)) ∷ (26, ltb room (length (merged a b))) ∷ [])
 
 -- Beside 0 the count of keys, beside 25 and 26 nothing (0).
-unfoldable pub mergeOf : List ℕ → List ℕ → ℕ → ℕ × ℕ
-mergeOf a b room = let k = mergeRefusal a b room in (k, cond (eqb k 0) (length (merged a b)) 0)
+unfoldable pub merge_of : List ℕ → List ℕ → ℕ → ℕ × ℕ
+merge_of a b room = let k = merge_refusal a b room in (k, cond (eqb k 0) (length (merged a b)) 0)
 
 -- What the output holds after the call: the merged list over its front, and all as it was where the call is refused.
-unfoldable pub mergedAfter : List ℕ → List ℕ → List ℕ → List ℕ
-mergedAfter a b out = cond (eqb (mergeRefusal a b (length out)) 0) (overFront (merged a b) out) out
+unfoldable pub merged_after : List ℕ → List ℕ → List ℕ → List ℕ
+merged_after a b out = cond (eqb (merge_refusal a b (length out)) 0) (over_front (merged a b) out) out
 
 -- The answer of the code: document 02's number of each case, and the count of keys beside it.
-abbrev pub mergeAnswer : ListMerged → ℕ × ℕ
-mergeAnswer (list-merged.Keys n) = (0, n)
-mergeAnswer list-merged.NotAscending = (25, 0)
-mergeAnswer list-merged.TooFewPlaces = (26, 0)
+abbrev pub merge_answer : ListMerged → ℕ × ℕ
+merge_answer (list-merged.Keys n) = (0, n)
+merge_answer list-merged.NotAscending = (25, 0)
+merge_answer list-merged.TooFewPlaces = (26, 0)

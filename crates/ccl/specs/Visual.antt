@@ -3,9 +3,9 @@
 -- a malformed visual line anywhere in the text, with the first such line's number from 1, tested after the entry".
 -- Assumes nothing.
 use Rattle.std.specs.Prelude.{Bool, cond, ◌&&◌, List, [], ◌∷◌, ◌++◌, map, ℕ, ◌+◌, ◌-◌, eqb, length, get_or, take, drop}
-use Rattle.common.specs.Lists.{concat, passing, isIn, sameBytes}
+use Rattle.common.specs.Lists.{concat, passing, is_in, same_bytes}
 use Rattle.ccl.specs.Line.{closes}
-use Rattle.ccl.specs.Cin.{cinDigits, cinOf, badEntry}
+use Rattle.ccl.specs.Cin.{cin_digits, cin_of, bad_entry}
 use Rattle.ccl.specs.declared.visual.Lookup.{Lookup}
 use Rattle.ccl.specs.declared.visual.Lookup.TheVariants as lookups
 use Rattle.ccl.specs.declared.visual.TypedLookup.{TypedLookup}
@@ -14,80 +14,80 @@ use Rattle.ccl.specs.declared.visual.TypedLookup.TheVariants as typed-lookups
 -- ---- digits written as lines
 
 -- `(cin (`, and `))` with the 0A
-abbrev pub cinOpens : List ℕ
-cinOpens = 0x28 ∷ 0x63 ∷ 0x69 ∷ 0x6E ∷ 0x20 ∷ 0x28 ∷ []
+abbrev pub cin_opens : List ℕ
+cin_opens = 0x28 ∷ 0x63 ∷ 0x69 ∷ 0x6E ∷ 0x20 ∷ 0x28 ∷ []
 
-abbrev pub cinCloses : List ℕ
-cinCloses = closes ++ (0x0A ∷ [])
+abbrev pub cin_closes : List ℕ
+cin_closes = closes ++ (0x0A ∷ [])
 
-abbrev pub openingSize : ℕ
-openingSize = length cinOpens
+abbrev pub opening_size : ℕ
+opening_size = length cin_opens
 
-abbrev pub closingSize : ℕ
-closingSize = length cinCloses
+abbrev pub closing_size : ℕ
+closing_size = length cin_closes
 
 -- The line of some digits.
-unfoldable pub visualLineOf : List ℕ → List ℕ
-visualLineOf d = cinOpens ++ d ++ cinCloses
+unfoldable pub visual_line_of : List ℕ → List ℕ
+visual_line_of d = cin_opens ++ d ++ cin_closes
 
 -- The text of a list of such digits, a line to each.
-abbrev pub visualTextOf : List (List ℕ) → List ℕ
-visualTextOf ds = concat (map visualLineOf ds)
+abbrev pub visual_text_of : List (List ℕ) → List ℕ
+visual_text_of ds = concat (map visual_line_of ds)
 
 -- ---- the numbers of a text
 
 -- The lines of a text: each runs to a 0A, which is its last byte. What follows the last 0A, if anything does, is a line
 -- that lacks it. Empty text has no lines.
-abbrev pub withFirst : ℕ → List (List ℕ) → List (List ℕ)
-withFirst x [] = (x ∷ []) ∷ []
-withFirst x (l ∷ ls) = (x ∷ l) ∷ ls
+abbrev pub with_first : ℕ → List (List ℕ) → List (List ℕ)
+with_first x [] = (x ∷ []) ∷ []
+with_first x (l ∷ ls) = (x ∷ l) ∷ ls
 
-unfoldable pub textLines : List ℕ → List (List ℕ)
-textLines [] = []
-textLines (x ∷ s) = cond (eqb x 0x0A) ((x ∷ []) ∷ textLines s) (withFirst x (textLines s))
+unfoldable pub text_lines : List ℕ → List (List ℕ)
+text_lines [] = []
+text_lines (x ∷ s) = cond (eqb x 0x0A) ((x ∷ []) ∷ text_lines s) (with_first x (text_lines s))
 
 -- What stands in a line between the bytes that open it and those that close it; and whether the line is that of 1 to 10
 -- digits.
-unfoldable pub visualDigits : List ℕ → List ℕ
-visualDigits l = take (length l - (openingSize + closingSize)) (drop openingSize l)
+unfoldable pub visual_digits : List ℕ → List ℕ
+visual_digits l = take (length l - (opening_size + closing_size)) (drop opening_size l)
 
-unfoldable pub goodVisual : List ℕ → Bool
-goodVisual l = cinDigits (visualDigits l) && sameBytes l (visualLineOf (visualDigits l))
+unfoldable pub good_visual : List ℕ → Bool
+good_visual l = cin_digits (visual_digits l) && same_bytes l (visual_line_of (visual_digits l))
 
 -- How many good lines the text begins with, and whether all lines are good.
-unfoldable pub goodVisuals : List ℕ → ℕ
-goodVisuals text = passing (length (textLines text)) (λ i. goodVisual (get_or (textLines text) i []))
+unfoldable pub good_visuals : List ℕ → ℕ
+good_visuals text = passing (length (text_lines text)) (λ i. good_visual (get_or (text_lines text) i []))
 
-unfoldable pub wellVisual : List ℕ → Bool
-wellVisual text = eqb (goodVisuals text) (length (textLines text))
+unfoldable pub well_visual : List ℕ → Bool
+well_visual text = eqb (good_visuals text) (length (text_lines text))
 
 -- The numbers of the lines.
-unfoldable pub cinsIn : List ℕ → List ℕ
-cinsIn text = map (λ l. cinOf (visualDigits l)) (textLines text)
+unfoldable pub cins_in : List ℕ → List ℕ
+cins_in text = map (λ l. cin_of (visual_digits l)) (text_lines text)
 
 -- ---- a number looked up
 
 -- "24 for a malformed visual line anywhere in the text"
-abbrev pub malformedVisual : ℕ
-malformedVisual = 24
+abbrev pub malformed_visual : ℕ
+malformed_visual = 24
 
 -- Beside 0 the yes (1) or no (0), beside 24 the number of the first malformed line.
-unfoldable pub lookupOf : ℕ → List ℕ → ℕ × ℕ
-lookupOf cin text = cond (wellVisual text) (0, cond (isIn cin (cinsIn text)) 1 0) (malformedVisual, goodVisuals text + 1)
+unfoldable pub lookup_of : ℕ → List ℕ → ℕ × ℕ
+lookup_of cin text = cond (well_visual text) (0, cond (is_in cin (cins_in text)) 1 0) (malformed_visual, good_visuals text + 1)
 
 -- The number typed; 23 is tested first, and beside it stands nothing (0).
 unfoldable pub typed_of : List ℕ → List ℕ → ℕ × ℕ
-typed_of typed text = cond (cinDigits typed) (lookupOf (cinOf typed) text) (badEntry, 0)
+typed_of typed text = cond (cin_digits typed) (lookup_of (cin_of typed) text) (bad_entry, 0)
 
 -- ---- the answers of the code: document 02's number of each case, and what stands beside it
 
-abbrev pub lookupAnswer : Lookup → ℕ × ℕ
-lookupAnswer lookups.Listed = (0, 1)
-lookupAnswer lookups.NotListed = (0, 0)
-lookupAnswer (lookups.Malformed n) = (malformedVisual, n)
+abbrev pub lookup_answer : Lookup → ℕ × ℕ
+lookup_answer lookups.Listed = (0, 1)
+lookup_answer lookups.NotListed = (0, 0)
+lookup_answer (lookups.Malformed n) = (malformed_visual, n)
 
-abbrev pub typedAnswer : TypedLookup → ℕ × ℕ
-typedAnswer typed-lookups.Listed = (0, 1)
-typedAnswer typed-lookups.NotListed = (0, 0)
-typedAnswer typed-lookups.BadEntry = (badEntry, 0)
-typedAnswer (typed-lookups.Malformed n) = (malformedVisual, n)
+abbrev pub typed_answer : TypedLookup → ℕ × ℕ
+typed_answer typed-lookups.Listed = (0, 1)
+typed_answer typed-lookups.NotListed = (0, 0)
+typed_answer typed-lookups.BadEntry = (bad_entry, 0)
+typed_answer (typed-lookups.Malformed n) = (malformed_visual, n)

@@ -2,8 +2,8 @@
 // and that a visual list holds (document 02, request 2).
 ghost use Rattle.std.specs.Prelude.{◌≡◌};
 ghost use Rattle.common.specs.Decimal.{spelled};
-ghost use Rattle.ccl.specs.Cin.{entryAnswer, entry_of};
-ghost use Rattle.ccl.specs.VisualCode.{leadingDigits};
+ghost use Rattle.ccl.specs.Cin.{entry_answer, entry_of};
+ghost use Rattle.ccl.specs.VisualCode.{leading_digits};
 
 use common::number;
 
@@ -12,13 +12,13 @@ use common::number;
 #[derive(Drop)]
 pub struct Cin(pub(crate) u64);
 
-// The most digits of a CIN; `longestCin` in the definitions.
+// The most digits of a CIN; `longest_cin` in the definitions.
 pub(crate) const LONGEST_CIN: usize = 10;
 
-// Document 02's number of an entry that is no CIN; `badEntry` in the definitions.
+// Document 02's number of an entry that is no CIN; `bad_entry` in the definitions.
 pub const BAD_ENTRY: u8 = 23;
 
-// What read_entry answers: the CIN, or that the entry is none. `entryAnswer` gives document 02's number of each.
+// What read_entry answers: the CIN, or that the entry is none. `entry_answer` gives document 02's number of each.
 #[derive(Drop)]
 pub enum Entry {
     Typed(Cin),
@@ -34,7 +34,7 @@ pub(crate) struct Digits {
 }
 
 pub(crate) fn leading_digits(s: &[u8]) -> Digits
-    ensures count { result.count ≡ leadingDigits s.now }
+    ensures count { result.count ≡ leading_digits s.now }
     ensures spells { result.number ≡ spelled result.count s.now }
 {
     let most = number::least(s.len(), LONGEST_CIN + 1);
@@ -59,7 +59,7 @@ pub(crate) fn leading_digits(s: &[u8]) -> Digits
 
 // The CIN that a guard typed.
 pub fn read_entry(typed: &[u8]) -> Entry
-    ensures { entryAnswer result ≡ entry_of typed.now }
+    ensures { entry_answer result ≡ entry_of typed.now }
 {
     let digits = leading_digits(typed);
     let n = digits.count;

@@ -1,21 +1,21 @@
 // A list line: `(card (1341 0001 987654) (1 1))` and 0A, with the key's 16 digits so spaced.
 ghost use Rattle.std.specs.Prelude.{◌≡◌, ◌<◌, length};
-ghost use Rattle.common.specs.Decimal.{digitValues, digitsOf};
-ghost use Rattle.card.specs.Fascn.{keyLength};
-ghost use Rattle.ccl.specs.Line.{line_of, lineDigits, line_key, cardAnswer, cardOf};
+ghost use Rattle.common.specs.Decimal.{digit_values, digits_of};
+ghost use Rattle.card.specs.Fascn.{key_length};
+ghost use Rattle.ccl.specs.Line.{line_of, line_digits, line_key, card_answer, card_of};
 
 use card::fascn;
 use card::fascn::Key;
 use card::fascn::counts::KEY_DIGITS;
 use text::form;
 
-// The bytes of a line, its 0A among them; `lineSize` in the definitions.
+// The bytes of a line, its 0A among them; `line_size` in the definitions.
 pub const LINE: usize = 32;
 
-// A key is below this number, 10 to the power of its count of digits; `keyLimit` in the definitions.
+// A key is below this number, 10 to the power of its count of digits; `key_limit` in the definitions.
 pub const KEY_LIMIT: u64 = 10000000000000000;
 
-// What card_key answers: the key, or that the text is no card's. `cardAnswer` gives document 01's number of each.
+// What card_key answers: the key, or that the text is no card's. `card_answer` gives document 01's number of each.
 #[derive(Drop)]
 pub enum CardKey {
     Card(Key),
@@ -25,7 +25,7 @@ pub enum CardKey {
 // The values of the digits in a line, or in a line without its 0A.
 fn line_values(s: &[u8]) -> [u8; KEY_DIGITS]
     requires { 28 < length s.now }
-    ensures { result ≡ digitValues (lineDigits s.now) }
+    ensures { result ≡ digit_values (line_digits s.now) }
 {
     [
         s[7] % 16,
@@ -58,7 +58,7 @@ pub(crate) fn line_key(s: &[u8]) -> Key
 
 // The key of a card's text, that is of a line without its 0A.
 pub fn card_key(s: &[u8]) -> CardKey
-    ensures { cardAnswer result ≡ cardOf s.now }
+    ensures { card_answer result ≡ card_of s.now }
 {
     if form::between(
         b"(card (0000 0000 000000) (0 0))",
@@ -73,7 +73,7 @@ pub fn card_key(s: &[u8]) -> CardKey
 
 // The 16 digits of a key in ASCII, the highest first.
 fn digits_of(key: Key) -> [u8; KEY_DIGITS]
-    ensures { result ≡ digitsOf keyLength key.0 }
+    ensures { result ≡ digits_of key_length key.0 }
 {
     let mut d = [0u8; KEY_DIGITS];
     let mut rest = key.0;

@@ -1,7 +1,7 @@
 // A list as text, a line to a key, and as keys.
 ghost use Rattle.std.specs.Prelude.{◌≡◌, ◌*◌, ◌/◌, ◌≤◌, length};
-ghost use Rattle.common.specs.Lists.{overFront, written};
-ghost use Rattle.ccl.specs.ListText.{lineSize, goodLines, key_at, readAnswer, read_of, keysAfter, smallKeys, lines_of, writeAnswer, writeOf, textAfter};
+ghost use Rattle.common.specs.Lists.{over_front, written};
+ghost use Rattle.ccl.specs.ListText.{line_size, good_lines, key_at, read_answer, read_of, keys_after, small_keys, lines_of, write_answer, write_of, text_after};
 
 use crate::line;
 use crate::line::{KEY_LIMIT, LINE};
@@ -10,7 +10,7 @@ use common::slice;
 use text::form;
 
 // What read answers: how many keys, the number of the first malformed line, or that the places are too few.
-// `readAnswer` gives document 01's number of each.
+// `read_answer` gives document 01's number of each.
 #[derive(Drop)]
 pub enum ListRead {
     Keys(usize),
@@ -18,7 +18,7 @@ pub enum ListRead {
     TooFewPlaces,
 }
 
-// What write answers: how many keys, that a key has more than 16 digits, or that the buffer is too short. `writeAnswer`
+// What write answers: how many keys, that a key has more than 16 digits, or that the buffer is too short. `write_answer`
 // gives document 01's number of each.
 #[derive(Drop)]
 pub enum ListWritten {
@@ -30,7 +30,7 @@ pub enum ListWritten {
 impl ListRead {
     // Document 01's number, 0 where the text is read.
     pub fn number(self) -> u8
-        ensures { result ≡ (readAnswer self).0 }
+        ensures { result ≡ (read_answer self).0 }
     {
         match self {
             ListRead::Keys(_) => 0,
@@ -41,7 +41,7 @@ impl ListRead {
 
     // What stands beside the number: the count of keys, the number of the malformed line, or 0.
     pub fn beside(self) -> usize
-        ensures { result ≡ (readAnswer self).1 }
+        ensures { result ≡ (read_answer self).1 }
     {
         match self {
             ListRead::Keys(n) => n,
@@ -54,7 +54,7 @@ impl ListRead {
 impl ListWritten {
     // Document 01's number, 0 where the keys are written.
     pub fn number(self) -> u8
-        ensures { result ≡ (writeAnswer self).0 }
+        ensures { result ≡ (write_answer self).0 }
     {
         match self {
             ListWritten::Keys(_) => 0,
@@ -65,7 +65,7 @@ impl ListWritten {
 
     // What stands beside the number: the count of keys, or 0.
     pub fn beside(self) -> usize
-        ensures { result ≡ (writeAnswer self).1 }
+        ensures { result ≡ (write_answer self).1 }
     {
         match self {
             ListWritten::Keys(n) => n,
@@ -77,8 +77,8 @@ impl ListWritten {
 
 // How many good lines the text begins with.
 fn good_lines(text: &[u8]) -> usize
-    ensures value { result ≡ goodLines text.now }
-    ensures inside { lineSize * result ≤ length text.now }
+    ensures value { result ≡ good_lines text.now }
+    ensures inside { line_size * result ≤ length text.now }
 {
     let lowest = b"(card (0000 0000 000000) (0 0))\n";
     let highest = b"(card (9999 9999 999999) (9 9))\n";
@@ -98,7 +98,7 @@ fn good_lines(text: &[u8]) -> usize
 
 // The keys of the first n lines, stored at the front of keys.
 fn put_keys(text: &[u8], n: usize, keys: &mut [u64])
-    requires { (lineSize * n ≤ length text.now) × (n ≤ length keys.old) }
+    requires { (line_size * n ≤ length text.now) × (n ≤ length keys.old) }
     ensures { keys.new ≡ written keys.old 0 n (key_at text.now) }
 {
     for i in 0..n {
@@ -111,8 +111,8 @@ fn put_keys(text: &[u8], n: usize, keys: &mut [u64])
 
 // The keys of a list's text, in its order, stored at the front of keys. The whole text is judged first.
 pub fn read(text: &[u8], keys: &mut [u64]) -> ListRead
-    ensures result_value { readAnswer result ≡ read_of text.now (length keys.old) }
-    ensures keys_after { keys.new ≡ keysAfter text.now keys.old }
+    ensures result_value { read_answer result ≡ read_of text.now (length keys.old) }
+    ensures keys_after { keys.new ≡ keys_after text.now keys.old }
 {
     let n = good_lines(text);
     if LINE * n != text.len() {
@@ -127,7 +127,7 @@ pub fn read(text: &[u8], keys: &mut [u64]) -> ListRead
 
 // Whether every key has at most 16 digits.
 fn small_keys(keys: &[u64]) -> bool
-    ensures { result ≡ smallKeys keys.now }
+    ensures { result ≡ small_keys keys.now }
 {
     let mut ok = true;
     for i in 0..keys.len() {
@@ -138,8 +138,8 @@ fn small_keys(keys: &[u64]) -> bool
 
 // The lines of the keys, stored at the front of out.
 fn put_lines(keys: &[u64], out: &mut [u8])
-    requires { length keys.now ≤ length out.old / lineSize }
-    ensures { out.new ≡ overFront (lines_of keys.now) out.old }
+    requires { length keys.now ≤ length out.old / line_size }
+    ensures { out.new ≡ over_front (lines_of keys.now) out.old }
 {
     for i in 0..keys.len() {
         let line = line::line_of(Key(keys[i]));
@@ -149,8 +149,8 @@ fn put_lines(keys: &[u64], out: &mut [u8])
 
 // The text of a list of keys, stored at the front of out.
 pub fn write(keys: &[u64], out: &mut [u8]) -> ListWritten
-    ensures result_value { writeAnswer result ≡ writeOf keys.now (length out.old) }
-    ensures out_after { out.new ≡ textAfter keys.now out.old }
+    ensures result_value { write_answer result ≡ write_of keys.now (length out.old) }
+    ensures out_after { out.new ≡ text_after keys.now out.old }
 {
     if !small_keys(keys) {
         return ListWritten::KeyTooLarge;

@@ -1,11 +1,11 @@
 // Two lists of keys, head office's and the terminal's own, become one (document 02, request 4). Both must ascend
 // strictly; then the merged list does too.
 ghost use Rattle.std.specs.Prelude.{◌≡◌, cond, ◌+◌, ◌-◌, ◌≤◌, length, get_or};
-ghost use Rattle.common.specs.Lists.{overFront, written};
-ghost use Rattle.ccl.specs.Merge.{ascending, merged, mergeAnswer, mergeOf, mergedAfter};
+ghost use Rattle.common.specs.Lists.{over_front, written};
+ghost use Rattle.ccl.specs.Merge.{ascending, merged, merge_answer, merge_of, merged_after};
 
 // What merge answers: how many keys, that a list does not ascend strictly, or that the places are too few.
-// `mergeAnswer` gives document 02's number of each.
+// `merge_answer` gives document 02's number of each.
 #[derive(Drop)]
 pub enum ListMerged {
     Keys(usize),
@@ -16,7 +16,7 @@ pub enum ListMerged {
 impl ListMerged {
     // Document 02's number, 0 where the lists are merged.
     pub fn number(self) -> u8
-        ensures { result ≡ (mergeAnswer self).0 }
+        ensures { result ≡ (merge_answer self).0 }
     {
         match self {
             ListMerged::Keys(_) => 0,
@@ -27,7 +27,7 @@ impl ListMerged {
 
     // What stands beside the number: the count of keys, or 0.
     pub fn beside(self) -> usize
-        ensures { result ≡ (mergeAnswer self).1 }
+        ensures { result ≡ (merge_answer self).1 }
     {
         match self {
             ListMerged::Keys(n) => n,
@@ -95,7 +95,7 @@ fn store_rest(keys: &[u64], from: usize, out: &mut [u64], at: usize)
 // follows.
 fn put_merged(a: &[u64], b: &[u64], out: &mut [u64])
     requires { length (merged a.now b.now) ≤ length out.old }
-    ensures { out.new ≡ overFront (merged a.now b.now) out.old }
+    ensures { out.new ≡ over_front (merged a.now b.now) out.old }
 {
     let mut i = 0;
     let mut j = 0;
@@ -119,8 +119,8 @@ fn put_merged(a: &[u64], b: &[u64], out: &mut [u64])
 
 // Two lists made one: both are tested and the merged keys counted, and only then are they stored at the front of out.
 pub fn merge(a: &[u64], b: &[u64], out: &mut [u64]) -> ListMerged
-    ensures result_value { mergeAnswer result ≡ mergeOf a.now b.now (length out.old) }
-    ensures out_after { out.new ≡ mergedAfter a.now b.now out.old }
+    ensures result_value { merge_answer result ≡ merge_of a.now b.now (length out.old) }
+    ensures out_after { out.new ≡ merged_after a.now b.now out.old }
 {
     if !(ascends(a) & ascends(b)) {
         return ListMerged::NotAscending;

@@ -1,19 +1,19 @@
 // The Visual Cancelled Card List as text, lines `(cin (12345678))` each ended by 0A, and the yes or no for a typed
 // number (document 02, request 2).
 ghost use Rattle.std.specs.Prelude.{◌≡◌, take};
-ghost use Rattle.common.specs.Lists.{sameBytes};
-ghost use Rattle.ccl.specs.Visual.{openingSize, closingSize, cinOpens, cinCloses, lookupAnswer, lookupOf, typedAnswer, typed_of};
-ghost use Rattle.ccl.specs.VisualCode.{frontSize, frontNumber};
+ghost use Rattle.common.specs.Lists.{same_bytes};
+ghost use Rattle.ccl.specs.Visual.{opening_size, closing_size, cin_opens, cin_closes, lookup_answer, lookup_of, typed_answer, typed_of};
+ghost use Rattle.ccl.specs.VisualCode.{front_size, front_number};
 
 use crate::cin;
 use crate::cin::{BAD_ENTRY, Cin, Entry, LONGEST_CIN};
 use common::slice;
 
-// Document 02's number of a malformed line; `malformedVisual` in the definitions.
+// Document 02's number of a malformed line; `malformed_visual` in the definitions.
 pub const MALFORMED_VISUAL: u8 = 24;
 
 // What Cin::listed answers: whether the number is in the list, or the number of the first malformed line.
-// `lookupAnswer` gives document 02's number of each.
+// `lookup_answer` gives document 02's number of each.
 #[derive(Drop)]
 pub enum Lookup {
     Listed,
@@ -21,7 +21,7 @@ pub enum Lookup {
     Malformed(usize),
 }
 
-// What look_up answers: the same, or that the entry is no CIN. `typedAnswer` gives document 02's number of each.
+// What look_up answers: the same, or that the entry is no CIN. `typed_answer` gives document 02's number of each.
 #[derive(Drop)]
 pub enum TypedLookup {
     Listed,
@@ -33,7 +33,7 @@ pub enum TypedLookup {
 impl TypedLookup {
     // Document 02's number, 0 where there is a yes or no.
     pub fn number(self) -> u8
-        ensures { result ≡ (typedAnswer self).0 }
+        ensures { result ≡ (typed_answer self).0 }
     {
         match self {
             TypedLookup::Listed => 0,
@@ -45,7 +45,7 @@ impl TypedLookup {
 
     // What stands beside the number: 1 or 0 for yes or no, the number of the malformed line, or 0.
     pub fn beside(self) -> usize
-        ensures { result ≡ (typedAnswer self).1 }
+        ensures { result ≡ (typed_answer self).1 }
     {
         match self {
             TypedLookup::Listed => 1,
@@ -56,7 +56,7 @@ impl TypedLookup {
     }
 }
 
-// How many bytes open a line, `(cin (`, and close it, `))` and 0A; `openingSize` and `closingSize` in the definitions.
+// How many bytes open a line, `(cin (`, and close it, `))` and 0A; `opening_size` and `closing_size` in the definitions.
 const OPENING: usize = 6;
 
 const CLOSING: usize = 3;
@@ -71,7 +71,7 @@ struct FrontLine {
 
 // Whether the bytes begin with `(cin (`.
 fn opens_line(s: &[u8]) -> bool
-    ensures { result ≡ sameBytes (take openingSize s.now) cinOpens }
+    ensures { result ≡ same_bytes (take opening_size s.now) cin_opens }
 {
     if s.len() < OPENING {
         return false;
@@ -86,7 +86,7 @@ fn opens_line(s: &[u8]) -> bool
 
 // Whether the bytes begin with `))` and 0A.
 fn closes_line(s: &[u8]) -> bool
-    ensures { result ≡ sameBytes (take closingSize s.now) cinCloses }
+    ensures { result ≡ same_bytes (take closing_size s.now) cin_closes }
 {
     if s.len() < CLOSING {
         return false;
@@ -96,8 +96,8 @@ fn closes_line(s: &[u8]) -> bool
 
 // The line that the bytes begin with.
 fn front_line(s: &[u8]) -> FrontLine
-    ensures size { result.size ≡ frontSize s.now }
-    ensures number { result.number ≡ frontNumber s.now }
+    ensures size { result.size ≡ front_size s.now }
+    ensures number { result.number ≡ front_number s.now }
 {
     let digits = cin::leading_digits(slice::after(s, OPENING));
     let n = digits.count;
@@ -119,7 +119,7 @@ impl Cin {
     // Whether the number is in the visual list. The text is gone through once, to its end or to the first malformed
     // line.
     pub fn listed(self, text: &[u8]) -> Lookup
-        ensures { lookupAnswer result ≡ lookupOf self.0 text.now }
+        ensures { lookup_answer result ≡ lookup_of self.0 text.now }
     {
         let wanted = self.0;
         let mut met = false;
@@ -144,7 +144,7 @@ impl Cin {
 
 // The answer for a number that was typed.
 fn answered(lookup: Lookup) -> TypedLookup
-    ensures { typedAnswer result ≡ lookupAnswer lookup }
+    ensures { typed_answer result ≡ lookup_answer lookup }
 {
     match lookup {
         Lookup::Listed => TypedLookup::Listed,
@@ -155,7 +155,7 @@ fn answered(lookup: Lookup) -> TypedLookup
 
 // Whether the number that a guard typed is in the visual list.
 pub fn look_up(typed: &[u8], text: &[u8]) -> TypedLookup
-    ensures { typedAnswer result ≡ typed_of typed.now text.now }
+    ensures { typed_answer result ≡ typed_of typed.now text.now }
 {
     match cin::read_entry(typed) {
         Entry::Typed(cin) => answered(cin.listed(text)),

@@ -10,7 +10,7 @@ use native.Mathlib.Omega.{arith}
 use lib.ListN.{length, set, length-set}
 use lib.Seq.{drop-length}
 use Rattle.common.specs.Lists.{list_of, written, all}
-use Rattle.common.proofs.ListsLaws.{written_none, written-more, all_more}
+use Rattle.common.proofs.ListsLaws.{written_none, written_more, all_more}
 
 -- ---- places written, one or several a turn
 
@@ -22,30 +22,30 @@ pub record WrittenSoFar (l : List ℕ) (at n : ℕ) (f : ℕ → ℕ) (i : ℕ) 
   pub is : m ≡ written l at i f
 
 -- nothing is written yet
-pub writing-none : {l : List ℕ} {at n : ℕ} {f : ℕ → ℕ} → at + n ≤ length l → WrittenSoFar l at n f 0 l
-writing-none {l} {at} {n} {f} h = record { most = omega arith; room = h; long = refl; is = sym (written_none l at f) }
+pub writing_none : {l : List ℕ} {at n : ℕ} {f : ℕ → ℕ} → at + n ≤ length l → WrittenSoFar l at n f 0 l
+writing_none {l} {at} {n} {f} h = record { most = omega arith; room = h; long = refl; is = sym (written_none l at f) }
 
 -- one more
 pub writing_more : {l m : List ℕ} {at n i x : ℕ} {f : ℕ → ℕ} → WrittenSoFar l at n f i m → i < n → x ≡ f i → WrittenSoFar l at n f (i + 1) (set m (at + i) x)
 writing_more {l} {m} {at} {n} {i} {x} {f} p h q =
-    record { most = omega arith; room = p.room; long = rw length-set p.long; is = written-more l at i f (omega (arith, p.room)) p.is q }
+    record { most = omega arith; room = p.room; long = rw length-set p.long; is = written_more l at i f (omega (arith, p.room)) p.is q }
 
 -- the same where the places are the list's first
-pub writing-front : {l m : List ℕ} {n i x : ℕ} {f : ℕ → ℕ} → WrittenSoFar l 0 n f i m → i < n → x ≡ f i → WrittenSoFar l 0 n f (i + 1) (set m i x)
-writing-front p h q = rw zero-add at (writing_more p h q)
+pub writing_front : {l m : List ℕ} {n i x : ℕ} {f : ℕ → ℕ} → WrittenSoFar l 0 n f i m → i < n → x ≡ f i → WrittenSoFar l 0 n f (i + 1) (set m i x)
+writing_front p h q = rw zero-add at (writing_more p h q)
 
 -- the first k, where a turn writes several
-pub writing-to : {l m d : List ℕ} {at n i k : ℕ} {f : ℕ → ℕ} → WrittenSoFar l at n f i m → k ≤ n → length d ≡ length l → d ≡ written l at k f → WrittenSoFar l at n f k d
-writing-to p h e q = record { most = h; room = p.room; long = e; is = q }
+pub writing_to : {l m d : List ℕ} {at n i k : ℕ} {f : ℕ → ℕ} → WrittenSoFar l at n f i m → k ≤ n → length d ≡ length l → d ≡ written l at k f → WrittenSoFar l at n f k d
+writing_to p h e q = record { most = h; room = p.room; long = e; is = q }
 
 -- all n are written
-pub writing-end : {l m : List ℕ} {at n i : ℕ} {f : ℕ → ℕ} → WrittenSoFar l at n f i m → n ≤ i → m ≡ written l at n f
-writing-end {l} {m} {at} {n} {i} {f} p h = let e : i ≡ n = omega (arith, p.most) in rw e at p.is
+pub writing_end : {l m : List ℕ} {at n i : ℕ} {f : ℕ → ℕ} → WrittenSoFar l at n f i m → n ≤ i → m ≡ written l at n f
+writing_end {l} {m} {at} {n} {i} {f} p h = let e : i ≡ n = omega (arith, p.most) in rw e at p.is
 
 -- and where they are all places of the list, it is written whole
-pub writing-whole : {l m : List ℕ} {n i : ℕ} {f : ℕ → ℕ} → WrittenSoFar l 0 n f i m → n ≤ i → n ≡ length l → m ≡ list_of n f
+pub writing_whole : {l m : List ℕ} {n i : ℕ} {f : ℕ → ℕ} → WrittenSoFar l 0 n f i m → n ≤ i → n ≡ length l → m ≡ list_of n f
 unfolding written
-writing-whole {l} {m} {n} {i} {f} p h e = writing-end p h ∙ rw (zero-add, e, drop-length, append-nil)
+writing_whole {l} {m} {n} {i} {f} p h e = writing_end p h ∙ rw (zero-add, e, drop-length, append-nil)
 
 -- ---- tests made, one a turn
 
@@ -55,14 +55,14 @@ pub record TestedSoFar (n : ℕ) (f : ℕ → Bool) (i : ℕ) (ok : Bool) : Type
   pub is : ok ≡ all i f
 
 -- no test is made yet
-pub testing-none : {n : ℕ} {f : ℕ → Bool} → TestedSoFar n f 0 true
+pub testing_none : {n : ℕ} {f : ℕ → Bool} → TestedSoFar n f 0 true
 unfolding all
-testing-none = record { most = omega arith; is = refl }
+testing_none = record { most = omega arith; is = refl }
 
 -- one more
-pub testing-more : {n i : ℕ} {f : ℕ → Bool} {ok r : Bool} → TestedSoFar n f i ok → i < n → r ≡ f i → TestedSoFar n f (i + 1) (ok && r)
-testing-more {n} {i} {f} p h q = record { most = omega arith; is = all_more f i p.is q }
+pub testing_more : {n i : ℕ} {f : ℕ → Bool} {ok r : Bool} → TestedSoFar n f i ok → i < n → r ≡ f i → TestedSoFar n f (i + 1) (ok && r)
+testing_more {n} {i} {f} p h q = record { most = omega arith; is = all_more f i p.is q }
 
 -- all n are made
-pub testing-end : {n i : ℕ} {f : ℕ → Bool} {ok : Bool} → TestedSoFar n f i ok → n ≤ i → ok ≡ all n f
-testing-end {n} {i} {f} {ok} p h = let e : i ≡ n = omega (arith, p.most) in rw e at p.is
+pub testing_end : {n i : ℕ} {f : ℕ → Bool} {ok : Bool} → TestedSoFar n f i ok → n ≤ i → ok ≡ all n f
+testing_end {n} {i} {f} {ok} p h = let e : i ≡ n = omega (arith, p.most) in rw e at p.is

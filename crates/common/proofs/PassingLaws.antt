@@ -19,10 +19,10 @@ pub record Passing (n : ℕ) (f : ℕ → Bool) (p : ℕ) : Type 0 where
   pub each : (i : ℕ) → i < p → f i ≡ true
   pub next : p < n → f p ≡ false
 
-pub passing-is : (n : ℕ) (f : ℕ → Bool) → Passing n f (passing n f)
+pub passing_is : (n : ℕ) (f : ℕ → Bool) → Passing n f (passing n f)
 unfolding passing
-passing-is zero f = record { most = omega arith; each = λ i h. absurd (omega arith); next = λ h. absurd (omega arith) }
-passing-is (suc n) f = go (passing n f) (passing-is n f) (eqb (passing n f) n) refl (f n) refl
+passing_is zero f = record { most = omega arith; each = λ i h. absurd (omega arith); next = λ h. absurd (omega arith) }
+passing_is (suc n) f = go (passing n f) (passing_is n f) (eqb (passing n f) n) refl (f n) refl
   where
     go : (p : ℕ) → Passing n f p → (t : Bool) → eqb p n ≡ t → (u : Bool) → f n ≡ u → Passing (suc n) f (cond (t && u) (suc n) p)
     go p s true e true q =
@@ -37,18 +37,18 @@ passing-is (suc n) f = go (passing n f) (passing-is n f) (eqb (passing n f) n) r
         record { most = omega (arith, s.most); each = s.each; next = λ h. s.next (omega (arith, s.most, eqb-false p n e)) }
 
 -- the first n pass, and so does the next
-pub passing-more : (f : ℕ → Bool) (n : ℕ) → passing n f ≡ n → f n ≡ true → passing (n + 1) f ≡ n + 1
+pub passing_more : (f : ℕ → Bool) (n : ℕ) → passing n f ≡ n → f n ≡ true → passing (n + 1) f ≡ n + 1
 unfolding passing
-passing-more f n p t = rw (add-one, p, eq-eqb n n refl, t)
+passing_more f n p t = rw (add-one, p, eq-eqb n n refl, t)
 
 -- the first n of m pass and the next does not
-pub passing-stop : (f : ℕ → Bool) (n m : ℕ) → n < m → passing n f ≡ n → f n ≡ false → passing m f ≡ n
+pub passing_stop : (f : ℕ → Bool) (n m : ℕ) → n < m → passing n f ≡ n → f n ≡ false → passing m f ≡ n
 unfolding passing
-passing-stop f n zero h p t = absurd (not-suc-le-zero h)
-passing-stop f n (suc m) h p t =
+passing_stop f n zero h p t = absurd (not-suc-le-zero h)
+passing_stop f n (suc m) h p t =
     ⊎_elim
     (λ (e : n ≡ m). rw (← e, p, eq-eqb n n refl, t))
-    (λ (l : n < m). rw (passing-stop f n m l p t, ne_eqb n m (λ (e : n ≡ m). omega arith)))
+    (λ (l : n < m). rw (passing_stop f n m l p t, ne_eqb n m (λ (e : n ≡ m). omega arith)))
     (eq-or-lt_of_le (le_of_suc-le-suc h))
 
 -- where each passes, n pass
@@ -64,10 +64,10 @@ eqb-suc m n =
     (λ e. let s = eqb-true (suc m) (suc n) e in eq-eqb m n (omega arith)) (λ e. let s = eqb-true m n e in eq-eqb (suc m) (suc n) (omega arith))
 
 -- the first passes, and how many do after it; or it does not
-pub passing-front : (n : ℕ) (f : ℕ → Bool) → passing (suc n) f ≡ cond (f 0) (suc (passing n (λ i. f (suc i)))) 0
+pub passing_front : (n : ℕ) (f : ℕ → Bool) → passing (suc n) f ≡ cond (f 0) (suc (passing n (λ i. f (suc i)))) 0
 unfolding passing
-passing-front zero f = refl
-passing-front (suc n) f = by (passing (suc n) f) (passing n (λ i. f (suc i))) (f 0) (passing-front n f)
+passing_front zero f = refl
+passing_front (suc n) f = by (passing (suc n) f) (passing n (λ i. f (suc i))) (f 0) (passing_front n f)
   where
     later : (b : Bool) (m q : ℕ) → cond b (suc m) (suc q) ≡ suc (cond b m q)
     later true m q = refl

@@ -29,10 +29,10 @@ unfolding index_of index_after
 none_before [] = tt
 none_before (b ∷ s) = counted (λ n l. NoEnd (take n l)) b s (eqb b 0x0A) (λ e. tt) (λ e. (e, none_before s))
 
-pub before-within : (s : List ℕ) → index_of 0x0A s ≤ length s
+pub before_within : (s : List ℕ) → index_of 0x0A s ≤ length s
 unfolding index_of index_after
-before-within [] = zero-le
-before-within (b ∷ s) = counted (λ n l. n ≤ length l) b s (eqb b 0x0A) (λ e. zero-le) (λ e. suc-le-suc (before-within s))
+before_within [] = zero-le
+before_within (b ∷ s) = counted (λ n l. n ≤ length l) b s (eqb b 0x0A) (λ e. zero-le) (λ e. suc-le-suc (before_within s))
 
 end_after : (s : List ℕ) → index_of 0x0A s < length s → get_or s (index_of 0x0A s) 0 ≡ 0x0A
 unfolding index_of index_after
@@ -41,7 +41,7 @@ end_after (b ∷ s) =
     counted (λ n l. n < length l → get_or l n 0 ≡ 0x0A) b s (eqb b 0x0A) (λ e h. eqb-true _ _ e) (λ e h. end_after s (le_of_suc-le-suc h))
 
 -- the bytes to the first 0A with it
-pub with-end : (s : List ℕ) → index_of 0x0A s < length s → take (index_of 0x0A s + 1) s ≡ take (index_of 0x0A s) s ++ (0x0A ∷ [])
-with-end s h =
+pub with_end : (s : List ℕ) → index_of 0x0A s < length s → take (index_of 0x0A s + 1) s ≡ take (index_of 0x0A s) s ++ (0x0A ∷ [])
+with_end s h =
     ap (λ (n : ℕ). take n s) (add-one (index_of 0x0A s)) ∙ take-suc s (index_of 0x0A s) 0 h
     ∙ ap (λ (b : ℕ). take (index_of 0x0A s) s ++ (b ∷ [])) (end_after s h)

@@ -39,14 +39,14 @@ same_test false true f g = g refl
 same_test false false f g = refl
 
 -- a choice that is made on both sides by one test
-pub by-test : {A B : Type 0} (P : A → B → Type 0) (x y : A) (u v : B) (b : Bool) → (b ≡ true → P x u) → (b ≡ false → P y v) → P (cond b x y) (cond b u v)
-by-test P x y u v true f g = f refl
-by-test P x y u v false f g = g refl
+pub by_test : {A B : Type 0} (P : A → B → Type 0) (x y : A) (u v : B) (b : Bool) → (b ≡ true → P x u) → (b ≡ false → P y v) → P (cond b x y) (cond b u v)
+by_test P x y u v true f g = f refl
+by_test P x y u v false f g = g refl
 
 -- a choice whose first half has a property where the test passes, and its second where it fails, has it
-pub by-case : {A : Type 0} (P : A → Type 0) (x y : A) (b : Bool) → (b ≡ true → P x) → (b ≡ false → P y) → P (cond b x y)
-by-case P x y true f g = f refl
-by-case P x y false f g = g refl
+pub by_case : {A : Type 0} (P : A → Type 0) (x y : A) (b : Bool) → (b ≡ true → P x) → (b ≡ false → P y) → P (cond b x y)
+by_case P x y true f g = f refl
+by_case P x y false f g = g refl
 
 -- a choice whose second half has a property of false, and whose first has that of x where the test passes, has that of
 -- both tests

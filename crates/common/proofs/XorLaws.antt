@@ -10,7 +10,7 @@ use lib.Arith.{bin_ind}
 use lib.Bits.{bit_xor, differ, xor_step, xor_shr, xor_mod, xor_comm, xor_zero_r, xor_lt}
 use lib.Dec.{lit<}
 use lib.Pow.{pow_pos}
-use Rattle.common.specs.Lists.{list_of, xorOf}
+use Rattle.common.specs.Lists.{list_of, xor_of}
 
 digit_assoc : (x y z : ℕ) → x < 2 → y < 2 → z < 2 → differ (bit_xor x y) z ≡ differ x (bit_xor y z)
 digit_assoc zero zero z p q r = refl
@@ -33,22 +33,22 @@ xor_assoc a =
     (ap₂ (λ (x y : ℕ). x * 2 + y) (ih (b / 2) (c / 2)) (digit_assoc (n % 2) (b % 2) (c % 2) (mod-lt n (lit< tt)) (mod-lt b (lit< tt)) (mod-lt c (lit< tt)))))
     a
 
-pub xor-left-comm : (a b c : ℕ) → bit_xor a (bit_xor b c) ≡ bit_xor b (bit_xor a c)
-xor-left-comm a b c = sym (xor_assoc a b c) ∙ ap (λ (x : ℕ). bit_xor x c) (xor_comm a b) ∙ xor_assoc b a c
+pub xor_left_comm : (a b c : ℕ) → bit_xor a (bit_xor b c) ≡ bit_xor b (bit_xor a c)
+xor_left_comm a b c = sym (xor_assoc a b c) ∙ ap (λ (x : ℕ). bit_xor x c) (xor_comm a b) ∙ xor_assoc b a c
 
-pub xorOf-append : (l m : List ℕ) → xorOf (l ++ m) ≡ bit_xor (xorOf l) (xorOf m)
-unfolding xorOf
-xorOf-append [] m = refl
-xorOf-append (x ∷ l) m = rw (xorOf-append l m) (sym (xor_assoc x (xorOf l) (xorOf m)))
+pub xor_of-append : (l m : List ℕ) → xor_of (l ++ m) ≡ bit_xor (xor_of l) (xor_of m)
+unfolding xor_of
+xor_of-append [] m = refl
+xor_of-append (x ∷ l) m = rw (xor_of-append l m) (sym (xor_assoc x (xor_of l) (xor_of m)))
 
 -- a loop that takes the exclusive or, from z on
-pub xorOf-more : (z : ℕ) (f : ℕ → ℕ) (i : ℕ) {x : ℕ} → x ≡ bit_xor z (xorOf (list_of i f)) → bit_xor x (f i) ≡ bit_xor z (xorOf (list_of (i + 1) f))
-unfolding list_of xorOf
-xorOf-more z f i p = rw (p, add-one, xorOf-append (list_of i f) (f i ∷ []), xor_zero_r, xor_assoc)
+pub xor_of_more : (z : ℕ) (f : ℕ → ℕ) (i : ℕ) {x : ℕ} → x ≡ bit_xor z (xor_of (list_of i f)) → bit_xor x (f i) ≡ bit_xor z (xor_of (list_of (i + 1) f))
+unfolding list_of xor_of
+xor_of_more z f i p = rw (p, add-one, xor_of-append (list_of i f) (f i ∷ []), xor_zero_r, xor_assoc)
 
-pub xorOf-lt : (k : ℕ) (f : ℕ → ℕ) (n : ℕ) → ((i : ℕ) → i < n → f i < 2 ^ k) → xorOf (list_of n f) < 2 ^ k
-unfolding list_of xorOf
-xorOf-lt k f zero h = pow_pos k
-xorOf-lt k f (suc n) h =
-    rw (xorOf-append (list_of n f) (f n ∷ []), xor_zero_r)
-    (xor_lt k (xorOf (list_of n f)) (f n) (xorOf-lt k f n (λ i l. h i (le_step l))) (h n (le_refl (suc n))))
+pub xor_of_lt : (k : ℕ) (f : ℕ → ℕ) (n : ℕ) → ((i : ℕ) → i < n → f i < 2 ^ k) → xor_of (list_of n f) < 2 ^ k
+unfolding list_of xor_of
+xor_of_lt k f zero h = pow_pos k
+xor_of_lt k f (suc n) h =
+    rw (xor_of-append (list_of n f) (f n ∷ []), xor_zero_r)
+    (xor_lt k (xor_of (list_of n f)) (f n) (xor_of_lt k f n (λ i l. h i (le_step l))) (h n (le_refl (suc n))))

@@ -17,15 +17,15 @@ unfoldable pub written : List ℕ → ℕ → ℕ → (ℕ → ℕ) → List ℕ
 written l at n f = take at l ++ list_of n f ++ drop (at + n) l
 
 -- the list s over the front of l, and over the places from place at on
-unfoldable pub overFront : List ℕ → List ℕ → List ℕ
-overFront s l = s ++ drop (length s) l
+unfoldable pub over_front : List ℕ → List ℕ → List ℕ
+over_front s l = s ++ drop (length s) l
 
-unfoldable pub overPlaces : List ℕ → ℕ → List ℕ → List ℕ
-overPlaces l at s = take at l ++ s ++ drop (at + length s) l
+unfoldable pub over_places : List ℕ → ℕ → List ℕ → List ℕ
+over_places l at s = take at l ++ s ++ drop (at + length s) l
 
 -- the same where all of it fits, and l as it is where it does not
-unfoldable pub overPlacesWhere : List ℕ → ℕ → List ℕ → List ℕ
-overPlacesWhere l at s = cond (leb (at + length s) (length l)) (overPlaces l at s) l
+unfoldable pub over_places_where : List ℕ → ℕ → List ℕ → List ℕ
+over_places_where l at s = cond (leb (at + length s) (length l)) (over_places l at s) l
 
 -- lists one after another
 abbrev pub concat : List (List ℕ) → List ℕ
@@ -48,15 +48,15 @@ number b zero f = 0
 number b (suc n) f = number b n f * b + f n
 
 -- the exclusive or of the numbers of a list
-unfoldable pub xorOf : List ℕ → ℕ
-xorOf [] = 0
-xorOf (x ∷ l) = bit_xor x (xorOf l)
+unfoldable pub xor_of : List ℕ → ℕ
+xor_of [] = 0
+xor_of (x ∷ l) = bit_xor x (xor_of l)
 
 -- a number is one of a list
-abbrev pub isIn : ℕ → List ℕ → Bool
-isIn x [] = false
-isIn x (y ∷ ys) = eqb x y || isIn x ys
+abbrev pub is_in : ℕ → List ℕ → Bool
+is_in x [] = false
+is_in x (y ∷ ys) = eqb x y || is_in x ys
 
 -- two lists have the same bytes, and as many
-unfoldable pub sameBytes : List ℕ → List ℕ → Bool
-sameBytes a b = eqb (length a) (length b) && all (length a) (λ i. eqb (get_or a i 0) (get_or b i 0))
+unfoldable pub same_bytes : List ℕ → List ℕ → Bool
+same_bytes a b = eqb (length a) (length b) && all (length a) (λ i. eqb (get_or a i 0) (get_or b i 0))

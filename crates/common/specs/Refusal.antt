@@ -4,6 +4,6 @@
 use Rattle.std.specs.Prelude.{Bool, cond, List, [], ◌∷◌, ℕ}
 
 -- The number of the first condition that fits, and 0 where none does: the call is accepted.
-abbrev pub refusalOf : List (ℕ × Bool) → ℕ
-refusalOf [] = 0
-refusalOf (r ∷ rs) = cond r.1 r.0 (refusalOf rs)
+abbrev pub refusal_of : List (ℕ × Bool) → ℕ
+refusal_of [] = 0
+refusal_of (r ∷ rs) = cond r.1 r.0 (refusal_of rs)

@@ -3,5 +3,5 @@
 use Rattle.std.specs.Prelude.{ℕ}
 
 -- So many bytes are looked at at once.
-abbrev pub blockSize : ℕ
-blockSize = 32
+abbrev pub block_size : ℕ
+block_size = 32

@@ -2,8 +2,8 @@
 // two are equal, where a byte stands, and bytes stored from a place on.
 ghost use Rattle.std.specs.Prelude.{◌≡◌, not, ◌+◌, ◌≤◌, eqb, length, get_or, take, drop};
 ghost use Rattle.bytes.specs.Bytes.{index_of};
-ghost use Rattle.common.specs.Lists.{all, sameBytes, overPlacesWhere};
-ghost use Rattle.common.specs.SliceCode.{blockSize};
+ghost use Rattle.common.specs.Lists.{all, same_bytes, over_places_where};
+ghost use Rattle.common.specs.SliceCode.{block_size};
 
 use crate::number;
 
@@ -39,7 +39,7 @@ pub fn part(s: &[u8], at: usize, n: usize) -> &[u8]
 
 // All bytes are equal, and there are as many. Every byte is looked at: there is no early exit.
 pub fn same(a: &[u8], b: &[u8]) -> bool
-    ensures { result ≡ sameBytes a.now b.now }
+    ensures { result ≡ same_bytes a.now b.now }
 {
     if a.len() != b.len() {
         return false;
@@ -51,13 +51,13 @@ pub fn same(a: &[u8], b: &[u8]) -> bool
     same
 }
 
-// The bytes of a block, in which a byte is looked for at once; `blockSize` in the definitions.
+// The bytes of a block, in which a byte is looked for at once; `block_size` in the definitions.
 const BLOCK: usize = 32;
 
 // None of the bytes of the block from place `at` on is x. Every one is looked at: there is no early exit.
 fn none_of(s: &[u8], at: usize, x: u8) -> bool
-    requires { at + blockSize ≤ length s.now }
-    ensures { result ≡ all blockSize (λ j. not (eqb (get_or s.now (at + j) 0) x)) }
+    requires { at + block_size ≤ length s.now }
+    ensures { result ≡ all block_size (λ j. not (eqb (get_or s.now (at + j) 0) x)) }
 {
     let mut absent = true;
     for j in 0..BLOCK {
@@ -108,7 +108,7 @@ pub fn before_first(s: &[u8], x: u8) -> usize
 
 // The bytes s stored in out from place `at` on, where all of them fit; out as it was where they do not.
 pub fn store(out: &mut [u8], at: usize, s: &[u8])
-    ensures { out.new ≡ overPlacesWhere out.old at s.now }
+    ensures { out.new ≡ over_places_where out.old at s.now }
 {
     if out.len() < at {
         return;

@@ -10,69 +10,69 @@ use lib.Dec.{eqb, ltb}
 use lib.ListN.{length, get_or, take, drop, length-append, length-take, length-drop}
 use lib.Seq.{take_all, take-nil, take_at, take-append-add, length-take-le, get_or-take, get_or-drop}
 use Rattle.common.specs.Lists.{list_of, written}
-use Rattle.common.proofs.ListsLaws.{length-listOf, listOf-is, written_none, length-written}
+use Rattle.common.proofs.ListsLaws.{length-list_of, list_of_is, written_none, length-written}
 use Rattle.bytes.specs.Bytes.{index_of}
-use Rattle.gate_lines.proofs.LineLaws.{line-held}
-use Rattle.gate_lines.proofs.PrintedLaws.{run-printed, run-output}
-use Rattle.gate_lines.specs.Line.{longest, lineIn}
-use Rattle.gate_lines.specs.Gate.{Gate, gateAfter, replyTo, replyText, fresh, endText}
-use Rattle.gate_lines.specs.Run.{runLines, printed, output, SinceOpen, sinceOpen, printedFor, endFor}
-use Rattle.gate_lines.specs.Input.{Cut, cutByte, cut, lastLine, cut_of, linesIn, mostHeld, InputState, inputStart, inputAfterByte, textOfByte, inputAfter, textOfInput, lastGate, lastText, FeedPromise, LastPromise}
-use Rattle.gate_lines.specs.InputCode.{partFrom, heldAfter, lineAfter}
-use Rattle.common.proofs.PlaceLaws.{NoEnd, none_before, with-end}
+use Rattle.gate_lines.proofs.LineLaws.{line_held}
+use Rattle.gate_lines.proofs.PrintedLaws.{run_printed, run_output}
+use Rattle.gate_lines.specs.Line.{longest, line_in}
+use Rattle.gate_lines.specs.Gate.{Gate, gate_after, reply_to, reply_text, fresh, end_text}
+use Rattle.gate_lines.specs.Run.{run_lines, printed, output, SinceOpen, since_open, printed_for, end_for}
+use Rattle.gate_lines.specs.Input.{Cut, cut_byte, cut, last_line, cut_of, lines_in, most_held, InputState, input_start, input_after_byte, text_of_byte, input_after, text_of_input, last_gate, last_text, FeedPromise, LastPromise}
+use Rattle.gate_lines.specs.InputCode.{part_from, held_after, line_after}
+use Rattle.common.proofs.PlaceLaws.{NoEnd, none_before, with_end}
 
 -- ---- one block after another
 
-pub feed-append : (a b : List ℕ) (m : InputState) → inputAfter m (a ++ b) ≡ inputAfter (inputAfter m a) b
-unfolding inputAfter
-feed-append [] b m = refl
-feed-append (x ∷ a) b m = feed-append a b (inputAfterByte m x)
+pub feed_append : (a b : List ℕ) (m : InputState) → input_after m (a ++ b) ≡ input_after (input_after m a) b
+unfolding input_after
+feed_append [] b m = refl
+feed_append (x ∷ a) b m = feed_append a b (input_after_byte m x)
 
-pub text-append : (a b : List ℕ) (m : InputState) → textOfInput m (a ++ b) ≡ textOfInput m a ++ textOfInput (inputAfter m a) b
-unfolding inputAfter textOfInput
-text-append [] b m = refl
-text-append (x ∷ a) b m = ap (λ (t : List ℕ). textOfByte m x ++ t) (text-append a b (inputAfterByte m x)) ∙ sym (append_assoc (textOfByte m x) _ _)
+pub text_append : (a b : List ℕ) (m : InputState) → text_of_input m (a ++ b) ≡ text_of_input m a ++ text_of_input (input_after m a) b
+unfolding input_after text_of_input
+text_append [] b m = refl
+text_append (x ∷ a) b m = ap (λ (t : List ℕ). text_of_byte m x ++ t) (text_append a b (input_after_byte m x)) ∙ sym (append_assoc (text_of_byte m x) _ _)
 
 -- ---- a part of a block without 0A, and with one at its end
 
 -- what is dropped before is dropped after
-take-onto : (n : ℕ) (x y : List ℕ) → take n (take n x ++ y) ≡ take n (x ++ y)
-take-onto zero x y = refl
-take-onto (suc n) [] y = refl
-take-onto (suc n) (a ∷ x) y = ap (λ (r : List ℕ). a ∷ r) (take-onto n x y)
+take_onto : (n : ℕ) (x y : List ℕ) → take n (take n x ++ y) ≡ take n (x ++ y)
+take_onto zero x y = refl
+take_onto (suc n) [] y = refl
+take_onto (suc n) (a ∷ x) y = ap (λ (r : List ℕ). a ∷ r) (take_onto n x y)
 
 abbrev holds : InputState → List ℕ → InputState
-holds m s = record { gate = m.gate; held = take mostHeld (m.held ++ s) }
+holds m s = record { gate = m.gate; held = take most_held (m.held ++ s) }
 
-held-within : (m : InputState) (s : List ℕ) → length (holds m s).held ≤ mostHeld
-held-within m s = omega (arith, length-take mostHeld (m.held ++ s))
+held_within : (m : InputState) (s : List ℕ) → length (holds m s).held ≤ most_held
+held_within m s = omega (arith, length-take most_held (m.held ++ s))
 
 -- bytes that are held after others
 holds_on : (m : InputState) (b : ℕ) (s : List ℕ) → holds (holds m (b ∷ [])) s ≡ holds m (b ∷ s)
 holds_on m b s =
     ap (λ (l : List ℕ). record { gate = m.gate; held = l })
-    (take-onto mostHeld (m.held ++ (b ∷ [])) s ∙ ap (take mostHeld) (append_assoc m.held (b ∷ []) s))
+    (take_onto most_held (m.held ++ (b ∷ [])) s ∙ ap (take most_held) (append_assoc m.held (b ∷ []) s))
 
-pub feed-run : (s : List ℕ) (m : InputState) → NoEnd s → length m.held ≤ mostHeld → inputAfter m s ≡ record { gate = m.gate; held = take mostHeld (m.held ++ s) }
-unfolding inputAfter
-feed-run [] m n h = ap (λ (l : List ℕ). record { gate = m.gate; held = l }) (sym (ap (take mostHeld) (append-nil m.held) ∙ take_all mostHeld m.held h))
-feed-run (b ∷ s) m n h = rw n.0 (feed-run s (holds m (b ∷ [])) n.1 (held-within m (b ∷ [])) ∙ holds_on m b s)
+pub feed_run : (s : List ℕ) (m : InputState) → NoEnd s → length m.held ≤ most_held → input_after m s ≡ record { gate = m.gate; held = take most_held (m.held ++ s) }
+unfolding input_after
+feed_run [] m n h = ap (λ (l : List ℕ). record { gate = m.gate; held = l }) (sym (ap (take most_held) (append-nil m.held) ∙ take_all most_held m.held h))
+feed_run (b ∷ s) m n h = rw n.0 (feed_run s (holds m (b ∷ [])) n.1 (held_within m (b ∷ [])) ∙ holds_on m b s)
 
-pub run-text : (s : List ℕ) (m : InputState) → NoEnd s → textOfInput m s ≡ []
-unfolding textOfInput
-run-text [] m n = refl
-run-text (b ∷ s) m n = rw n.0 (run-text s (holds m (b ∷ [])) n.1)
+pub run_text : (s : List ℕ) (m : InputState) → NoEnd s → text_of_input m s ≡ []
+unfolding text_of_input
+run_text [] m n = refl
+run_text (b ∷ s) m n = rw n.0 (run_text s (holds m (b ∷ [])) n.1)
 
-pub feed-line : (s : List ℕ) (m : InputState) → NoEnd s → length m.held ≤ mostHeld
-    → inputAfter m (s ++ (0x0A ∷ [])) ≡ record { gate = gateAfter m.gate (lineIn (take mostHeld (m.held ++ s))); held = [] }
-unfolding inputAfter
-feed-line s m n h = feed-append s (0x0A ∷ []) m ∙ ap (λ (k : InputState). inputAfter k (0x0A ∷ [])) (feed-run s m n h)
+pub feed_line : (s : List ℕ) (m : InputState) → NoEnd s → length m.held ≤ most_held
+    → input_after m (s ++ (0x0A ∷ [])) ≡ record { gate = gate_after m.gate (line_in (take most_held (m.held ++ s))); held = [] }
+unfolding input_after
+feed_line s m n h = feed_append s (0x0A ∷ []) m ∙ ap (λ (k : InputState). input_after k (0x0A ∷ [])) (feed_run s m n h)
 
-pub line-text : (s : List ℕ) (m : InputState) → NoEnd s → length m.held ≤ mostHeld
-    → textOfInput m (s ++ (0x0A ∷ [])) ≡ replyText (replyTo m.gate (lineIn (take mostHeld (m.held ++ s))))
-unfolding textOfInput
-line-text s m n h =
-    text-append s (0x0A ∷ []) m ∙ ap₂ (λ (t : List ℕ) (k : InputState). t ++ textOfInput k (0x0A ∷ [])) (run-text s m n) (feed-run s m n h) ∙ append-nil _
+pub line_text_lem : (s : List ℕ) (m : InputState) → NoEnd s → length m.held ≤ most_held
+    → text_of_input m (s ++ (0x0A ∷ [])) ≡ reply_text (reply_to m.gate (line_in (take most_held (m.held ++ s))))
+unfolding text_of_input
+line_text_lem s m n h =
+    text_append s (0x0A ∷ []) m ∙ ap₂ (λ (t : List ℕ) (k : InputState). t ++ text_of_input k (0x0A ∷ [])) (run_text s m n) (feed_run s m n h) ∙ append-nil _
 
 -- ---- how the code holds a line
 
@@ -82,240 +82,240 @@ added : (block : List ℕ) (from n room : ℕ) → from + n ≤ length block
 added block from n room h =
     let part = take n (drop from block) in
     let e : length part ≡ n = length-take-le n (drop from block) (omega (arith, length-drop from block)) in
-    listOf-is (min n room) _ (take room part) (omega (arith, length-take room part))
+    list_of_is (min n room) _ (take room part) (omega (arith, length-take room part))
     (λ i b. sym (get_or-take room part i 0 (omega arith) ∙ get_or-take n (drop from block) i 0 (omega arith) ∙ get_or-drop from block i 0))
 
 -- where there is room, and where there is none
-held-room : (line : List ℕ) (held : ℕ) (block : List ℕ) (from n : ℕ) → held ≤ mostHeld → length line ≡ mostHeld → from + n ≤ length block
-    → take (heldAfter held n) (lineAfter line held block from n) ≡ take mostHeld (take held line ++ take n (drop from block))
-unfolding heldAfter lineAfter written
-held-room line held block from n q e h =
+held_room : (line : List ℕ) (held : ℕ) (block : List ℕ) (from n : ℕ) → held ≤ most_held → length line ≡ most_held → from + n ≤ length block
+    → take (held_after held n) (line_after line held block from n) ≡ take most_held (take held line ++ take n (drop from block))
+unfolding held_after line_after written
+held_room line held block from n q e h =
     let p = take held line in
     let part = take n (drop from block) in
     let l : length p ≡ held = length-take-le held line (omega arith) in
-    let most : mostHeld ≡ length p + (mostHeld - held) = omega arith in
-    let k = min n (mostHeld - held) in
+    let most : most_held ≡ length p + (most_held - held) = omega arith in
+    let k = min n (most_held - held) in
     let new = list_of k (λ j. get_or block (from + j) 0) in
     let rest = drop (held + k) line in
-    take_at (p ++ new) rest (held + k) (length-append p new ∙ ap₂ ◌+◌ l (length-listOf _ _))
-    ∙ ap (λ (x : List ℕ). p ++ x) (added block from n (mostHeld - held) h)
-    ∙ sym (ap (λ (x : ℕ). take x (p ++ part)) most ∙ take-append-add p part (mostHeld - held))
+    take_at (p ++ new) rest (held + k) (length-append p new ∙ ap₂ ◌+◌ l (length-list_of _ _))
+    ∙ ap (λ (x : List ℕ). p ++ x) (added block from n (most_held - held) h)
+    ∙ sym (ap (λ (x : ℕ). take x (p ++ part)) most ∙ take-append-add p part (most_held - held))
 
-held-full : (line : List ℕ) (held : ℕ) (block : List ℕ) (from n : ℕ) → mostHeld < held → length line ≡ mostHeld
-    → take (heldAfter held n) (lineAfter line held block from n) ≡ take mostHeld (take held line ++ take n (drop from block))
-unfolding heldAfter lineAfter
-held-full line held block from n k e =
-    let z : min n (mostHeld - held) ≡ 0 = omega arith in
-    rw (z, written_none, take_all held line (omega arith), take_all (held + 0) line (omega arith), take_at line (take n (drop from block)) mostHeld e)
+held_full : (line : List ℕ) (held : ℕ) (block : List ℕ) (from n : ℕ) → most_held < held → length line ≡ most_held
+    → take (held_after held n) (line_after line held block from n) ≡ take most_held (take held line ++ take n (drop from block))
+unfolding held_after line_after
+held_full line held block from n k e =
+    let z : min n (most_held - held) ≡ 0 = omega arith in
+    rw (z, written_none, take_all held line (omega arith), take_all (held + 0) line (omega arith), take_at line (take n (drop from block)) most_held e)
 
-held_by : (line : List ℕ) (held : ℕ) (block : List ℕ) (from n : ℕ) (t : Bool) → ltb mostHeld held ≡ t → length line ≡ mostHeld → from + n ≤ length block
-    → take (heldAfter held n) (lineAfter line held block from n) ≡ take mostHeld (take held line ++ take n (drop from block))
-held_by line held block from n true t e h = held-full line held block from n (ltb-true _ _ t) e
-held_by line held block from n false t e h = held-room line held block from n (ltb-false _ _ t) e h
+held_by : (line : List ℕ) (held : ℕ) (block : List ℕ) (from n : ℕ) (t : Bool) → ltb most_held held ≡ t → length line ≡ most_held → from + n ≤ length block
+    → take (held_after held n) (line_after line held block from n) ≡ take most_held (take held line ++ take n (drop from block))
+held_by line held block from n true t e h = held_full line held block from n (ltb-true _ _ t) e
+held_by line held block from n false t e h = held_room line held block from n (ltb-false _ _ t) e h
 
-pub held_after : (line : List ℕ) (held : ℕ) (block : List ℕ) (from n : ℕ) → length line ≡ mostHeld → from + n ≤ length block
-    → take (heldAfter held n) (lineAfter line held block from n) ≡ take mostHeld (take held line ++ take n (drop from block))
-held_after line held block from n = held_by line held block from n (ltb mostHeld held) refl
+pub held_after_lem : (line : List ℕ) (held : ℕ) (block : List ℕ) (from n : ℕ) → length line ≡ most_held → from + n ≤ length block
+    → take (held_after held n) (line_after line held block from n) ≡ take most_held (take held line ++ take n (drop from block))
+held_after_lem line held block from n = held_by line held block from n (ltb most_held held) refl
 
 -- the buffer is as long as it was
-length-by : (line : List ℕ) (held : ℕ) (block : List ℕ) (from n : ℕ) (t : Bool) → ltb mostHeld held ≡ t → length line ≡ mostHeld
-    → length (lineAfter line held block from n) ≡ mostHeld
-unfolding lineAfter
-length-by line held block from n true t e =
-    let h : mostHeld < held = ltb-true _ _ t in
-    let z : min n (mostHeld - held) ≡ 0 = omega arith in
+length_by : (line : List ℕ) (held : ℕ) (block : List ℕ) (from n : ℕ) (t : Bool) → ltb most_held held ≡ t → length line ≡ most_held
+    → length (line_after line held block from n) ≡ most_held
+unfolding line_after
+length_by line held block from n true t e =
+    let h : most_held < held = ltb-true _ _ t in
+    let z : min n (most_held - held) ≡ 0 = omega arith in
     rw (z, written_none) e
-length-by line held block from n false t e =
-    let h : held ≤ mostHeld = ltb-false _ _ t in
-    length-written line held (min n (mostHeld - held)) _ (omega arith) ∙ e
+length_by line held block from n false t e =
+    let h : held ≤ most_held = ltb-false _ _ t in
+    length-written line held (min n (most_held - held)) _ (omega arith) ∙ e
 
-pub length-then : (line : List ℕ) (held : ℕ) (block : List ℕ) (from n : ℕ) → length line ≡ mostHeld → length (lineAfter line held block from n) ≡ mostHeld
-length-then line held block from n = length-by line held block from n (ltb mostHeld held) refl
+pub length_then : (line : List ℕ) (held : ℕ) (block : List ℕ) (from n : ℕ) → length line ≡ most_held → length (line_after line held block from n) ≡ most_held
+length_then line held block from n = length_by line held block from n (ltb most_held held) refl
 
 -- ---- a part of a block fed: from place `from` on, with the first 0A at place `end`, or none
 
 -- what is held of the line then
-abbrev pub heldTo : List ℕ → ℕ → List ℕ → ℕ → ℕ → List ℕ
-heldTo line held block from end = take (heldAfter held (end - from)) (lineAfter line held block from (end - from))
+abbrev pub held_to : List ℕ → ℕ → List ℕ → ℕ → ℕ → List ℕ
+held_to line held block from end = take (held_after held (end - from)) (line_after line held block from (end - from))
 
 -- the bytes before `end`, and how many
 ends_at : (block : List ℕ) (from end : ℕ) → end ≡ from + index_of 0x0A (drop from block) → end - from ≡ index_of 0x0A (drop from block)
 ends_at block from end e = omega (arith, e)
 
-held_to : (line : List ℕ) (held : ℕ) (block : List ℕ) (from end : ℕ) → length line ≡ mostHeld → end ≡ from + index_of 0x0A (drop from block) → end ≤ length block
-    → take mostHeld (take held line ++ take (index_of 0x0A (drop from block)) (drop from block)) ≡ heldTo line held block from end
-held_to line held block from end l e h = rw (ends_at block from end e) (sym (held_after line held block from (index_of 0x0A (drop from block)) l (omega (arith, e))))
+held_to_lem : (line : List ℕ) (held : ℕ) (block : List ℕ) (from end : ℕ) → length line ≡ most_held → end ≡ from + index_of 0x0A (drop from block) → end ≤ length block
+    → take most_held (take held line ++ take (index_of 0x0A (drop from block)) (drop from block)) ≡ held_to line held block from end
+held_to_lem line held block from end l e h = rw (ends_at block from end e) (sym (held_after_lem line held block from (index_of 0x0A (drop from block)) l (omega (arith, e))))
 
-line-within : (line : List ℕ) (held : ℕ) → length line ≡ mostHeld → length (take held line) ≤ mostHeld
-line-within line held l = omega (arith, length-take held line)
+line_within : (line : List ℕ) (held : ℕ) → length line ≡ most_held → length (take held line) ≤ most_held
+line_within line held l = omega (arith, length-take held line)
 
 -- where the block ends first, the bytes are held
-pub part-run : (g : Gate) (line : List ℕ) (held : ℕ) (block : List ℕ) (from end : ℕ) → length line ≡ mostHeld → end ≡ from + index_of 0x0A (drop from block)
+pub part_run : (g : Gate) (line : List ℕ) (held : ℕ) (block : List ℕ) (from end : ℕ) → length line ≡ most_held → end ≡ from + index_of 0x0A (drop from block)
     → end ≤ length block
-    → (inputAfter (record { gate = g; held = take held line }) (partFrom block from end)
-    ≡ record { gate = g; held = heldTo line held block from end })
-    × (textOfInput (record { gate = g; held = take held line }) (partFrom block from end) ≡ [])
-unfolding partFrom
-part-run g line held block from end l e h =
+    → (input_after (record { gate = g; held = take held line }) (part_from block from end)
+    ≡ record { gate = g; held = held_to line held block from end })
+    × (text_of_input (record { gate = g; held = take held line }) (part_from block from end) ≡ [])
+unfolding part_from
+part_run g line held block from end l e h =
     let m : InputState = record { gate = g; held = take held line } in
     let s = drop from block in
     let part : take (end - from) s ≡ take (index_of 0x0A s) s = ap (λ (n : ℕ). take n s) (ends_at block from end e) in (
-      ap (inputAfter m) part ∙ feed-run (take (index_of 0x0A s) s) m (none_before s) (line-within line held l)
-          ∙ ap (λ (x : List ℕ). record { gate = g; held = x }) (held_to line held block from end l e h),
-      ap (textOfInput m) part ∙ run-text (take (index_of 0x0A s) s) m (none_before s),
+      ap (input_after m) part ∙ feed_run (take (index_of 0x0A s) s) m (none_before s) (line_within line held l)
+          ∙ ap (λ (x : List ℕ). record { gate = g; held = x }) (held_to_lem line held block from end l e h),
+      ap (text_of_input m) part ∙ run_text (take (index_of 0x0A s) s) m (none_before s),
     )
 
 -- where a 0A ends the line, the line is done
-pub part-line : (g : Gate) (line : List ℕ) (held : ℕ) (block : List ℕ) (from end : ℕ) → length line ≡ mostHeld → end ≡ from + index_of 0x0A (drop from block)
+pub part_line : (g : Gate) (line : List ℕ) (held : ℕ) (block : List ℕ) (from end : ℕ) → length line ≡ most_held → end ≡ from + index_of 0x0A (drop from block)
     → end < length block
-    → (inputAfter (record { gate = g; held = take held line }) (partFrom block from (end + 1))
-    ≡ record { gate = gateAfter g (lineIn (heldTo line held block from end)); held = [] })
-    × (textOfInput (record { gate = g; held = take held line }) (partFrom block from (end + 1))
-    ≡ replyText (replyTo g (lineIn (heldTo line held block from end))))
-unfolding partFrom
-part-line g line held block from end l e h =
+    → (input_after (record { gate = g; held = take held line }) (part_from block from (end + 1))
+    ≡ record { gate = gate_after g (line_in (held_to line held block from end)); held = [] })
+    × (text_of_input (record { gate = g; held = take held line }) (part_from block from (end + 1))
+    ≡ reply_text (reply_to g (line_in (held_to line held block from end))))
+unfolding part_from
+part_line g line held block from end l e h =
     let m : InputState = record { gate = g; held = take held line } in
     let s = drop from block in
     let all : end + 1 - from ≡ index_of 0x0A s + 1 = omega (arith, e) in
     let part : take (end + 1 - from) s ≡ take (index_of 0x0A s) s ++ (0x0A ∷ []) =
-    ap (λ (n : ℕ). take n s) all ∙ with-end s (omega (arith, e, length-drop from block)) in
-    let to = held_to line held block from end l e (omega arith) in (
-      ap (inputAfter m) part ∙ feed-line (take (index_of 0x0A s) s) m (none_before s) (line-within line held l)
-          ∙ ap (λ (x : List ℕ). record { gate = gateAfter g (lineIn x); held = [] }) to,
-      ap (textOfInput m) part ∙ line-text (take (index_of 0x0A s) s) m (none_before s) (line-within line held l) ∙ ap (λ (x : List ℕ). replyText (replyTo g (lineIn x))) to,
+    ap (λ (n : ℕ). take n s) all ∙ with_end s (omega (arith, e, length-drop from block)) in
+    let to = held_to_lem line held block from end l e (omega arith) in (
+      ap (input_after m) part ∙ feed_line (take (index_of 0x0A s) s) m (none_before s) (line_within line held l)
+          ∙ ap (λ (x : List ℕ). record { gate = gate_after g (line_in x); held = [] }) to,
+      ap (text_of_input m) part ∙ line_text_lem (take (index_of 0x0A s) s) m (none_before s) (line_within line held l) ∙ ap (λ (x : List ℕ). reply_text (reply_to g (line_in x))) to,
     )
 
 -- ---- one list of lines after another
 
-pub run-append : (a b : List (List ℕ)) (g : Gate) → runLines g (a ++ b) ≡ runLines (runLines g a) b
-unfolding runLines
-run-append [] b g = refl
-run-append (l ∷ a) b g = run-append a b (gateAfter g (lineIn l))
+pub run_append : (a b : List (List ℕ)) (g : Gate) → run_lines g (a ++ b) ≡ run_lines (run_lines g a) b
+unfolding run_lines
+run_append [] b g = refl
+run_append (l ∷ a) b g = run_append a b (gate_after g (line_in l))
 
-pub printed-append : (a b : List (List ℕ)) (g : Gate) → printed g (a ++ b) ≡ printed g a ++ printed (runLines g a) b
-unfolding runLines printed
+pub printed-append : (a b : List (List ℕ)) (g : Gate) → printed g (a ++ b) ≡ printed g a ++ printed (run_lines g a) b
+unfolding run_lines printed
 printed-append [] b g = refl
 printed-append (l ∷ a) b g =
-    ap (λ (t : List ℕ). replyText (replyTo g (lineIn l)) ++ t) (printed-append a b (gateAfter g (lineIn l))) ∙ sym (append_assoc (replyText (replyTo g (lineIn l))) _ _)
+    ap (λ (t : List ℕ). reply_text (reply_to g (line_in l)) ++ t) (printed-append a b (gate_after g (line_in l))) ∙ sym (append_assoc (reply_text (reply_to g (line_in l))) _ _)
 
 -- one line after a list of them, of which the first bytes are held
-run-line : (g : Gate) (ls : List (List ℕ)) (l : List ℕ) (m : InputState) → m.gate ≡ runLines g ls → m.held ≡ take mostHeld l
-    → gateAfter m.gate (lineIn m.held) ≡ runLines g (ls ++ (l ∷ []))
-unfolding runLines
-run-line g ls l m p q = ap₂ gateAfter p (ap lineIn q ∙ line-held l) ∙ sym (run-append ls (l ∷ []) g)
+run_line : (g : Gate) (ls : List (List ℕ)) (l : List ℕ) (m : InputState) → m.gate ≡ run_lines g ls → m.held ≡ take most_held l
+    → gate_after m.gate (line_in m.held) ≡ run_lines g (ls ++ (l ∷ []))
+unfolding run_lines
+run_line g ls l m p q = ap₂ gate_after p (ap line_in q ∙ line_held l) ∙ sym (run_append ls (l ∷ []) g)
 
-printed-line : (g : Gate) (ls : List (List ℕ)) (l : List ℕ) (m : InputState) → m.gate ≡ runLines g ls → m.held ≡ take mostHeld l
-    → printed g (ls ++ (l ∷ [])) ≡ printed g ls ++ replyText (replyTo m.gate (lineIn m.held))
+printed_line : (g : Gate) (ls : List (List ℕ)) (l : List ℕ) (m : InputState) → m.gate ≡ run_lines g ls → m.held ≡ take most_held l
+    → printed g (ls ++ (l ∷ [])) ≡ printed g ls ++ reply_text (reply_to m.gate (line_in m.held))
 unfolding printed
-printed-line g ls l m p q =
+printed_line g ls l m p q =
     printed-append ls (l ∷ []) g
-    ∙ ap (λ (t : List ℕ). printed g ls ++ t) (append-nil _ ∙ sym (ap replyText (ap₂ replyTo p (ap lineIn q ∙ line-held l))))
+    ∙ ap (λ (t : List ℕ). printed g ls ++ t) (append-nil _ ∙ sym (ap reply_text (ap₂ reply_to p (ap line_in q ∙ line_held l))))
 
 -- ---- the input and its lines
 
 -- the input's state after the lines of the cut, which holds the first bytes of its rest
 pub record Does (g : Gate) (c : Cut) (m : InputState) : Type 0 where
-  pub gate : m.gate ≡ runLines g c.lines
-  pub held : m.held ≡ take mostHeld c.rest
+  pub gate : m.gate ≡ run_lines g c.lines
+  pub held : m.held ≡ take most_held c.rest
 
-byte-does : (g : Gate) (c : Cut) (m : InputState) (b : ℕ) (t : Bool) → eqb b 0x0A ≡ t → Does g c m → Does g (cutByte c b) (inputAfterByte m b)
-byte-does g c m b true e d = rw e (record { gate = run-line g c.lines c.rest m d.gate d.held; held = sym (take-nil mostHeld) })
-byte-does g c m b false e d =
+byte_does : (g : Gate) (c : Cut) (m : InputState) (b : ℕ) (t : Bool) → eqb b 0x0A ≡ t → Does g c m → Does g (cut_byte c b) (input_after_byte m b)
+byte_does g c m b true e d = rw e (record { gate = run_line g c.lines c.rest m d.gate d.held; held = sym (take-nil most_held) })
+byte_does g c m b false e d =
     rw e
     (record {
       gate = d.gate;
-      held = ap (λ (l : List ℕ). take mostHeld (l ++ (b ∷ []))) d.held ∙ take-onto mostHeld c.rest (b ∷ []);
+      held = ap (λ (l : List ℕ). take most_held (l ++ (b ∷ []))) d.held ∙ take_onto most_held c.rest (b ∷ []);
     })
 
-byte-prints : (g : Gate) (c : Cut) (m : InputState) (b : ℕ) (t : Bool) → eqb b 0x0A ≡ t → Does g c m
-    → printed g (cutByte c b).lines ≡ printed g c.lines ++ textOfByte m b
-byte-prints g c m b true e d = rw e (printed-line g c.lines c.rest m d.gate d.held)
-byte-prints g c m b false e d = rw e (sym (append-nil (printed g c.lines)))
+byte_prints : (g : Gate) (c : Cut) (m : InputState) (b : ℕ) (t : Bool) → eqb b 0x0A ≡ t → Does g c m
+    → printed g (cut_byte c b).lines ≡ printed g c.lines ++ text_of_byte m b
+byte_prints g c m b true e d = rw e (printed_line g c.lines c.rest m d.gate d.held)
+byte_prints g c m b false e d = rw e (sym (append-nil (printed g c.lines)))
 
-pub feed-cut : (s : List ℕ) (g : Gate) (c : Cut) (m : InputState) → Does g c m → Does g (cut c s) (inputAfter m s)
-unfolding inputAfter cut
-feed-cut [] g c m d = d
-feed-cut (b ∷ s) g c m d = feed-cut s g (cutByte c b) (inputAfterByte m b) (byte-does g c m b (eqb b 0x0A) refl d)
+pub feed_cut : (s : List ℕ) (g : Gate) (c : Cut) (m : InputState) → Does g c m → Does g (cut c s) (input_after m s)
+unfolding input_after cut
+feed_cut [] g c m d = d
+feed_cut (b ∷ s) g c m d = feed_cut s g (cut_byte c b) (input_after_byte m b) (byte_does g c m b (eqb b 0x0A) refl d)
 
-pub cut-prints : (s : List ℕ) (g : Gate) (c : Cut) (m : InputState) → Does g c m → printed g (cut c s).lines ≡ printed g c.lines ++ textOfInput m s
-unfolding cut textOfInput
-cut-prints [] g c m d = sym (append-nil (printed g c.lines))
-cut-prints (b ∷ s) g c m d =
-    cut-prints s g (cutByte c b) (inputAfterByte m b) (byte-does g c m b (eqb b 0x0A) refl d)
-    ∙ ap (λ (t : List ℕ). t ++ textOfInput (inputAfterByte m b) s) (byte-prints g c m b (eqb b 0x0A) refl d) ∙ append_assoc (printed g c.lines) _ _
+pub cut_prints : (s : List ℕ) (g : Gate) (c : Cut) (m : InputState) → Does g c m → printed g (cut c s).lines ≡ printed g c.lines ++ text_of_input m s
+unfolding cut text_of_input
+cut_prints [] g c m d = sym (append-nil (printed g c.lines))
+cut_prints (b ∷ s) g c m d =
+    cut_prints s g (cut_byte c b) (input_after_byte m b) (byte_does g c m b (eqb b 0x0A) refl d)
+    ∙ ap (λ (t : List ℕ). t ++ text_of_input (input_after_byte m b) s) (byte_prints g c m b (eqb b 0x0A) refl d) ∙ append_assoc (printed g c.lines) _ _
 
 -- ---- the whole input
 
-starts-does : (g : Gate) → Does g (record { lines = []; rest = [] }) (inputStart g)
-unfolding runLines
-starts-does g = record { gate = refl; held = sym (take-nil mostHeld) }
+starts_does : (g : Gate) → Does g (record { lines = []; rest = [] }) (input_start g)
+unfolding run_lines
+starts_does g = record { gate = refl; held = sym (take-nil most_held) }
 
 -- what is held of a rest that has a byte
-held-some : (n b : ℕ) (s : List ℕ) {l : List ℕ} → l ≡ take (suc n) (b ∷ s) → eqb (length l) 0 ≡ false
-held-some n b s {l} e = ne_eqb _ _ (λ (z : length l ≡ 0). omega (arith, ap length e, z))
+held_some : (n b : ℕ) (s : List ℕ) {l : List ℕ} → l ≡ take (suc n) (b ∷ s) → eqb (length l) 0 ≡ false
+held_some n b s {l} e = ne_eqb _ _ (λ (z : length l ≡ 0). omega (arith, ap length e, z))
 
-last-gate : (g : Gate) (ls : List (List ℕ)) (s : List ℕ) (m : InputState) → m.gate ≡ runLines g ls → m.held ≡ take mostHeld s
-    → lastGate m ≡ runLines g (ls ++ lastLine s)
-unfolding lastGate
-last-gate g ls [] m p q = rw (q, append-nil ls) p
-last-gate g ls (b ∷ s) m p q = rw (held-some longest b s q) (run-line g ls (b ∷ s) m p q)
+last_gate_lem : (g : Gate) (ls : List (List ℕ)) (s : List ℕ) (m : InputState) → m.gate ≡ run_lines g ls → m.held ≡ take most_held s
+    → last_gate m ≡ run_lines g (ls ++ last_line s)
+unfolding last_gate
+last_gate_lem g ls [] m p q = rw (q, append-nil ls) p
+last_gate_lem g ls (b ∷ s) m p q = rw (held_some longest b s q) (run_line g ls (b ∷ s) m p q)
 
-last-text : (g : Gate) (ls : List (List ℕ)) (s : List ℕ) (m : InputState) → m.gate ≡ runLines g ls → m.held ≡ take mostHeld s
-    → printed g (ls ++ lastLine s) ≡ printed g ls ++ lastText m
-unfolding lastText
-last-text g ls [] m p q = rw (q, append-nil ls) (sym (append-nil (printed g ls)))
-last-text g ls (b ∷ s) m p q = rw (held-some longest b s q) (printed-line g ls (b ∷ s) m p q)
+last_text_lem : (g : Gate) (ls : List (List ℕ)) (s : List ℕ) (m : InputState) → m.gate ≡ run_lines g ls → m.held ≡ take most_held s
+    → printed g (ls ++ last_line s) ≡ printed g ls ++ last_text m
+unfolding last_text
+last_text_lem g ls [] m p q = rw (q, append-nil ls) (sym (append-nil (printed g ls)))
+last_text_lem g ls (b ∷ s) m p q = rw (held_some longest b s q) (printed_line g ls (b ∷ s) m p q)
 
-pub whole-gate : (g : Gate) (s : List ℕ) → lastGate (inputAfter (inputStart g) s) ≡ runLines g (linesIn s)
-unfolding linesIn
-whole-gate g s =
+pub whole_gate : (g : Gate) (s : List ℕ) → last_gate (input_after (input_start g) s) ≡ run_lines g (lines_in s)
+unfolding lines_in
+whole_gate g s =
     let c = cut (record { lines = []; rest = [] }) s in
-    let d = feed-cut s g (record { lines = []; rest = [] }) (inputStart g) (starts-does g) in
-    last-gate g c.lines c.rest (inputAfter (inputStart g) s) d.gate d.held
+    let d = feed_cut s g (record { lines = []; rest = [] }) (input_start g) (starts_does g) in
+    last_gate_lem g c.lines c.rest (input_after (input_start g) s) d.gate d.held
 
-pub whole-text : (g : Gate) (s : List ℕ) → printed g (linesIn s) ≡ textOfInput (inputStart g) s ++ lastText (inputAfter (inputStart g) s)
-unfolding linesIn printed
-whole-text g s =
+pub whole_text : (g : Gate) (s : List ℕ) → printed g (lines_in s) ≡ text_of_input (input_start g) s ++ last_text (input_after (input_start g) s)
+unfolding lines_in printed
+whole_text g s =
     let c = cut (record { lines = []; rest = [] }) s in
-    let d = feed-cut s g (record { lines = []; rest = [] }) (inputStart g) (starts-does g) in
-    last-text g c.lines c.rest (inputAfter (inputStart g) s) d.gate d.held
-    ∙ ap (λ (t : List ℕ). t ++ lastText (inputAfter (inputStart g) s)) (cut-prints s g (record { lines = []; rest = [] }) (inputStart g) (starts-does g))
+    let d = feed_cut s g (record { lines = []; rest = [] }) (input_start g) (starts_does g) in
+    last_text_lem g c.lines c.rest (input_after (input_start g) s) d.gate d.held
+    ∙ ap (λ (t : List ℕ). t ++ last_text (input_after (input_start g) s)) (cut_prints s g (record { lines = []; rest = [] }) (input_start g) (starts_does g))
 
 -- an input, in whatever blocks it arrives, prints what its lines print
-pub whole-output : (g : Gate) (s : List ℕ)
-    → textOfInput (inputStart g) s ++ lastText (inputAfter (inputStart g) s) ++ endText (lastGate (inputAfter (inputStart g) s)).session ≡ output g (linesIn s)
+pub whole_output : (g : Gate) (s : List ℕ)
+    → text_of_input (input_start g) s ++ last_text (input_after (input_start g) s) ++ end_text (last_gate (input_after (input_start g) s)).session ≡ output g (lines_in s)
 unfolding output
-whole-output g s =
-    ap₂ (λ (t : List ℕ) (h : Gate). t ++ endText h.session) (sym (whole-text g s)) (whole-gate g s)
+whole_output g s =
+    ap₂ (λ (t : List ℕ) (h : Gate). t ++ end_text h.session) (sym (whole_text g s)) (whole_gate g s)
 
 -- ---- the promises of the contracts
 
 cut-append : (a b : List ℕ) (c : Cut) → cut c (a ++ b) ≡ cut (cut c a) b
 unfolding cut
 cut-append [] b c = refl
-cut-append (x ∷ a) b c = cut-append a b (cutByte c x)
+cut-append (x ∷ a) b c = cut-append a b (cut_byte c x)
 
 -- the state is that of the bytes before
-cut-does : (g : Gate) (m : InputState) (bytes : List ℕ) → m ≡ inputAfter (inputStart g) bytes → Does g (cut_of bytes) m
-cut-does g m bytes e = subst (Does g (cut_of bytes)) (sym e) (feed-cut bytes g (record { lines = []; rest = [] }) (inputStart g) (starts-does g))
+cut_does : (g : Gate) (m : InputState) (bytes : List ℕ) → m ≡ input_after (input_start g) bytes → Does g (cut_of bytes) m
+cut_does g m bytes e = subst (Does g (cut_of bytes)) (sym e) (feed_cut bytes g (record { lines = []; rest = [] }) (input_start g) (starts_does g))
 
-pub feed-promise : (m : InputState) (part text : List ℕ) → text ≡ textOfInput m part → FeedPromise m part text
-feed-promise m part text e object bytes p =
+pub feed_promise : (m : InputState) (part text : List ℕ) → text ≡ text_of_input m part → FeedPromise m part text
+feed_promise m part text e object bytes p =
     let c = cut_of bytes in
-    ap₂ (λ (a b : List ℕ). a ++ b) (sym (run-printed object c.lines)) e ∙ sym (cut-prints part (fresh object) c m (cut-does (fresh object) m bytes p))
-    ∙ ap (λ (x : Cut). printed (fresh object) x.lines) (sym (cut-append bytes part (record { lines = []; rest = [] }))) ∙ run-printed object (cut_of (bytes ++ part)).lines
+    ap₂ (λ (a b : List ℕ). a ++ b) (sym (run_printed object c.lines)) e ∙ sym (cut_prints part (fresh object) c m (cut_does (fresh object) m bytes p))
+    ∙ ap (λ (x : Cut). printed (fresh object) x.lines) (sym (cut-append bytes part (record { lines = []; rest = [] }))) ∙ run_printed object (cut_of (bytes ++ part)).lines
 
-pub last-promise : (m : InputState) (text : List ℕ) → text ≡ lastText m → LastPromise m text
-unfolding linesIn
-last-promise m text e object bytes p =
+pub last_promise : (m : InputState) (text : List ℕ) → text ≡ last_text m → LastPromise m text
+unfolding lines_in
+last_promise m text e object bytes p =
     let c = cut_of bytes in
-    let d = cut-does (fresh object) m bytes p in
-    ap₂ (λ (a b : List ℕ). a ++ b) (sym (run-printed object c.lines)) e ∙ sym (last-text (fresh object) c.lines c.rest m d.gate d.held)
-    ∙ run-printed object (c.lines ++ lastLine c.rest)
+    let d = cut_does (fresh object) m bytes p in
+    ap₂ (λ (a b : List ℕ). a ++ b) (sym (run_printed object c.lines)) e ∙ sym (last_text_lem (fresh object) c.lines c.rest m d.gate d.held)
+    ∙ run_printed object (c.lines ++ last_line c.rest)
 
 -- all that is printed of an input, in whatever blocks it arrives, by the reading
-pub whole-reading : (object s : List ℕ)
-    → let m = inputAfter (inputStart (fresh object)) s in
-    textOfInput (inputStart (fresh object)) s ++ lastText m ++ endText (lastGate m).session
-    ≡ printedFor (fresh object) SinceOpen.none (linesIn s) ++ endFor (sinceOpen (fresh object) (linesIn s))
-whole-reading object s = whole-output (fresh object) s ∙ run-output object (linesIn s)
+pub whole_reading : (object s : List ℕ)
+    → let m = input_after (input_start (fresh object)) s in
+    text_of_input (input_start (fresh object)) s ++ last_text m ++ end_text (last_gate m).session
+    ≡ printed_for (fresh object) SinceOpen.none (lines_in s) ++ end_for (since_open (fresh object) (lines_in s))
+whole_reading object s = whole_output (fresh object) s ∙ run_output object (lines_in s)

@@ -9,11 +9,11 @@ use mathlib.Core.List.{List}
 use Prim.Native.Nat.{ℕ}
 use native.Mathlib.Omega.{arith}
 use lib.ListN.{length, take}
-use Rattle.common.specs.Lists.{isIn}
+use Rattle.common.specs.Lists.{is_in}
 use Rattle.common.proofs.TestLaws.{clash, or_left, or_right}
-use Rattle.ccl.specs.Merge.{merged, mergeOf, mergedAfter}
-use Rattle.ccl.proofs.MergeLaws.{merged-either-way, in-merged, merge-front}
-use Rattle.session.specs.Tables.{failed, passed, standsGranted, outcomeOf, listOutcome, keyRead}
+use Rattle.ccl.specs.Merge.{merged, merge_of, merged_after}
+use Rattle.ccl.proofs.MergeLaws.{merged_either_way, in_merged, merge_front}
+use Rattle.session.specs.Tables.{failed, passed, stands_granted, outcome_of, list_outcome, key_read}
 use Rattle.session.specs.Reading.{StepOne}
 use Rattle.session.specs.Finding.{finding, standing}
 use Rattle.session.specs.Promise.{History, reading_of}
@@ -23,9 +23,9 @@ use Rattle.session.proofs.PromiseLaws.{reached, promise}
 -- ---- the outcome of check 4
 
 -- on a merged list it is failed exactly where the key is on at least one of the two
-pub check-merged : (key : ℕ) (a b : List ℕ) → (listOutcome key (merged a b) ≡ failed) ↔ ((isIn key a ≡ true) ⊎ (isIn key b ≡ true))
-unfolding listOutcome
-check-merged key a b = rw (in-merged key a b) (by (isIn key a) (isIn key b))
+pub check_merged : (key : ℕ) (a b : List ℕ) → (list_outcome key (merged a b) ≡ failed) ↔ ((is_in key a ≡ true) ⊎ (is_in key b ≡ true))
+unfolding list_outcome
+check_merged key a b = rw (in_merged key a b) (by (is_in key a) (is_in key b))
   where
     by : (p q : Bool) → (cond {A = ℕ} (p || q) failed passed ≡ failed) ↔ ((p ≡ true) ⊎ (q ≡ true))
     by true q = (λ e. inl refl, λ e. refl)
@@ -33,8 +33,8 @@ check-merged key a b = rw (in-merged key a b) (by (isIn key a) (isIn key b))
     by false false = (λ (z : passed ≡ failed). absurd (omega arith), λ e. ⊎_elim (λ z. clash z) (λ z. clash z) e)
 
 -- in both orders of merging
-pub check-either-way : (key : ℕ) (a b : List ℕ) → listOutcome key (merged a b) ≡ listOutcome key (merged b a)
-check-either-way key a b = ap (listOutcome key) (merged-either-way a b)
+pub check_either_way : (key : ℕ) (a b : List ℕ) → list_outcome key (merged a b) ≡ list_outcome key (merged b a)
+check_either_way key a b = ap (list_outcome key) (merged_either_way a b)
 
 -- ---- for every list of calls
 
@@ -47,28 +47,28 @@ only_one {p} {x} {y} e f = ap (the y) (sym e ∙ f)
     the d (Option.some o) = o
 
 -- Step 1 of a history ended with an answer that was lent the front of what merge left in its output.
-module _ (h : History) (one : StepOne) (ended : (reading_of h).found.step1 ≡ Option.some one) (a b out : List ℕ) (n : ℕ) (accepted : mergeOf a b (length out) ≡ (0, n))
-    (lent : one.cancelled ≡ take n (mergedAfter a b out)) where
+module _ (h : History) (one : StepOne) (ended : (reading_of h).found.step1 ≡ Option.some one) (a b out : List ℕ) (n : ℕ) (accepted : merge_of a b (length out) ≡ (0, n))
+    (lent : one.cancelled ≡ take n (merged_after a b out)) where
   -- the card's key
   abbrev key : ℕ
-  key = keyRead (reading_of h).opening.mode one.joined
+  key = key_read (reading_of h).opening.mode one.joined
 
-  list-is : one.cancelled ≡ merged a b
-  list-is = lent ∙ merge-front a b out n accepted
+  list_is : one.cancelled ≡ merged a b
+  list_is = lent ∙ merge_front a b out n accepted
 
   -- the finding has check 4 failed exactly where the card's key is on at least one of the two
-  pub found-merged : (outcomeOf (finding (reading_of h)).outcomes 4 ≡ failed) ↔ ((isIn key a ≡ true) ⊎ (isIn key b ≡ true))
+  pub found-merged : (outcome_of (finding (reading_of h)).outcomes 4 ≡ failed) ↔ ((is_in key a ≡ true) ⊎ (is_in key b ≡ true))
   unfolding finding
   found-merged =
       let r = reading_of h in
-      let judged : outcomeOf r.outcomes 4 ≡ listOutcome key one.cancelled = subst (ListJudged r.opening.mode r.outcomes) ended (reached h).holds.judged.list in
-      rw (judged, list-is) (check-merged key a b)
+      let judged : outcome_of r.outcomes 4 ≡ list_outcome key one.cancelled = subst (ListJudged r.opening.mode r.outcomes) ended (reached h).holds.judged.list in
+      rw (judged, list_is) (check_merged key a b)
 
   -- and where it stands granted, the card's key is on neither
-  pub granted-on-neither : standing (finding (reading_of h)) ≡ standsGranted → (isIn key a ≡ false) × (isIn key b ≡ false)
-  granted-on-neither e =
+  pub granted_on_neither : standing (finding (reading_of h)) ≡ stands_granted → (is_in key a ≡ false) × (is_in key b ≡ false)
+  granted_on_neither e =
       let g = (promise h).granted.0 e in
       let same : g.one ≡ one = only_one g.read ended in
-      let z : isIn key (merged a b) ≡ false = rw (same, list-is) at g.not_listed in
-      let q = sym (in-merged key a b) ∙ z in
-      (or_left (isIn key a) (isIn key b) q, or_right (isIn key a) (isIn key b) q)
+      let z : is_in key (merged a b) ≡ false = rw (same, list_is) at g.not_listed in
+      let q = sym (in_merged key a b) ∙ z in
+      (or_left (is_in key a) (is_in key b) q, or_right (is_in key a) (is_in key b) q)

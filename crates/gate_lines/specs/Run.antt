@@ -1,45 +1,45 @@
 -- The whole run: a list of lines, the calls that they make on the session, and what is printed for each line and at the end, by document 01's reading of those calls.
 -- Assumes nothing.
 use Rattle.std.specs.Prelude.{◌≡◌, Bool, cond, not, List, [], ◌∷◌, ◌++◌, map, ℕ, eqb, length, replicate}
-use Rattle.common.specs.Refusal.{refusalOf}
+use Rattle.common.specs.Refusal.{refusal_of}
 use Rattle.session.specs.Tables.{since}
-use Rattle.session.specs.Condition.{nothingLeft, openConditions, answerConditions}
-use Rattle.session.specs.Operation.{dead, openOf}
-use Rattle.session.specs.Reading.{Opening, Reading, begins, refusedBy, reading}
-use Rattle.session.specs.Finding.{finding, stampOf}
-use Rattle.session.specs.Promise.{Call, argumentsOf, History, finish}
+use Rattle.session.specs.Condition.{nothing_left, open_conditions, answer_conditions}
+use Rattle.session.specs.Operation.{dead, open_of}
+use Rattle.session.specs.Reading.{Opening, Reading, begins, refused_by, reading}
+use Rattle.session.specs.Finding.{finding, stamp_of}
+use Rattle.session.specs.Promise.{Call, arguments_of, History, finish}
 use Rattle.session.specs.declared.state.Session.{Session}
-use Rattle.gate_lines.specs.Line.{GateLine, lineIn}
-use Rattle.gate_lines.specs.Gate.{Gate, gateAfter, hasRoom, replyBy, replyTo, replyText, commandRoom, fresh, refusedText, stampText, endText}
+use Rattle.gate_lines.specs.Line.{GateLine, line_in}
+use Rattle.gate_lines.specs.Gate.{Gate, gate_after, has_room, reply_by, reply_to, reply_text, command_room, fresh, refused_text, stamp_text, end_text}
 use Rattle.gate_lines.specs.declared.state.LineReply.{LineReply}
 use Rattle.gate_lines.specs.declared.state.LineReply.TheVariants.{Ok, Bad}
 
 -- ---- a list of lines
 
-unfoldable pub runLines : Gate → List (List ℕ) → Gate
-runLines g [] = g
-runLines g (l ∷ ls) = runLines (gateAfter g (lineIn l)) ls
+unfoldable pub run_lines : Gate → List (List ℕ) → Gate
+run_lines g [] = g
+run_lines g (l ∷ ls) = run_lines (gate_after g (line_in l)) ls
 
 -- What is printed for the lines, and with what is printed at the end.
 unfoldable pub printed : Gate → List (List ℕ) → List ℕ
 printed g [] = []
-printed g (l ∷ ls) = replyText (replyTo g (lineIn l)) ++ printed (gateAfter g (lineIn l)) ls
+printed g (l ∷ ls) = reply_text (reply_to g (line_in l)) ++ printed (gate_after g (line_in l)) ls
 
 unfoldable pub output : Gate → List (List ℕ) → List ℕ
-output g ls = printed g ls ++ endText (runLines g ls).session
+output g ls = printed g ls ++ end_text (run_lines g ls).session
 
 -- ---- the calls that the lines make
 
 -- "Before each answer it makes the command call itself"
-abbrev pub commandCall : Call
-commandCall = Call.command (replicate commandRoom 0)
+abbrev pub command_call : Call
+command_call = Call.command (replicate command_room 0)
 
 -- The calls of one line, with all that they are lent. An opening begins anew and is no call on a session.
 abbrev pub calls_of : Gate → GateLine → List Call
 calls_of g (GateLine.card key) = []
 calls_of g (GateLine.opening mode date aid) = []
-calls_of g (GateLine.answer bytes) = commandCall ∷ Call.answer g.object bytes g.keys ∷ []
-calls_of g (GateLine.verdict kind yesNo fascn) = Call.verdict kind yesNo fascn ∷ []
+calls_of g (GateLine.answer bytes) = command_call ∷ Call.answer g.object bytes g.keys ∷ []
+calls_of g (GateLine.verdict kind yes_no fascn) = Call.verdict kind yes_no fascn ∷ []
 calls_of g GateLine.bad = []
 
 -- Since the last accepted opening: that opening, the object buffer at that time, and the calls made since. Before the first there is none.
@@ -47,25 +47,25 @@ pub data SinceOpen : Type 0 where
   none : SinceOpen
   from : (opening : Opening) (object : List ℕ) (calls : List Call) → SinceOpen
 
-abbrev pub withCalls : SinceOpen → List Call → SinceOpen
-withCalls SinceOpen.none calls = SinceOpen.none
-withCalls (SinceOpen.from o object before) calls = SinceOpen.from o object (before ++ calls)
+abbrev pub with_calls : SinceOpen → List Call → SinceOpen
+with_calls SinceOpen.none calls = SinceOpen.none
+with_calls (SinceOpen.from o object before) calls = SinceOpen.from o object (before ++ calls)
 
-abbrev pub sinceLine : Gate → SinceOpen → GateLine → SinceOpen
-sinceLine g t (GateLine.card key) = t
-sinceLine g t (GateLine.opening mode date aid) =
-    cond (eqb (openOf mode date aid).0 0) (SinceOpen.from (record { mode = mode; date = date; aid = aid }) g.object []) t
-sinceLine g t (GateLine.answer bytes) = withCalls t (calls_of g (GateLine.answer bytes))
-sinceLine g t (GateLine.verdict kind yesNo fascn) = withCalls t (calls_of g (GateLine.verdict kind yesNo fascn))
-sinceLine g t GateLine.bad = t
+abbrev pub since_line : Gate → SinceOpen → GateLine → SinceOpen
+since_line g t (GateLine.card key) = t
+since_line g t (GateLine.opening mode date aid) =
+    cond (eqb (open_of mode date aid).0 0) (SinceOpen.from (record { mode = mode; date = date; aid = aid }) g.object []) t
+since_line g t (GateLine.answer bytes) = with_calls t (calls_of g (GateLine.answer bytes))
+since_line g t (GateLine.verdict kind yes_no fascn) = with_calls t (calls_of g (GateLine.verdict kind yes_no fascn))
+since_line g t GateLine.bad = t
 
-unfoldable pub sinceLines : Gate → SinceOpen → List (List ℕ) → SinceOpen
-sinceLines g t [] = t
-sinceLines g t (l ∷ ls) = sinceLines (gateAfter g (lineIn l)) (sinceLine g t (lineIn l)) ls
+unfoldable pub since_lines : Gate → SinceOpen → List (List ℕ) → SinceOpen
+since_lines g t [] = t
+since_lines g t (l ∷ ls) = since_lines (gate_after g (line_in l)) (since_line g t (line_in l)) ls
 
 -- From the program's start.
-abbrev pub sinceOpen : Gate → List (List ℕ) → SinceOpen
-sinceOpen g ls = sinceLines g SinceOpen.none ls
+abbrev pub since_open : Gate → List (List ℕ) → SinceOpen
+since_open g ls = since_lines g SinceOpen.none ls
 
 -- ---- what is promised
 
@@ -83,49 +83,49 @@ Reached (SinceOpen.from o object calls) g = ReachedBy o object calls g
 
 -- "Which calls are refused is read from the list too": the number that the reading of the calls since the last accepted opening gives to a call made next; 4 where no
 -- opening was accepted.
-abbrev pub numberFor : SinceOpen → Call → ℕ
-numberFor SinceOpen.none c = 4
-numberFor (SinceOpen.from o object calls) c = refusedBy (reading (begins since o) (map argumentsOf calls)) (argumentsOf c)
+abbrev pub number_for : SinceOpen → Call → ℕ
+number_for SinceOpen.none c = 4
+number_for (SinceOpen.from o object calls) c = refused_by (reading (begins since o) (map arguments_of calls)) (arguments_of c)
 
 -- Of a reading: nothing is left to read.
 abbrev pub ended : Reading → Bool
-ended r = nothingLeft r.progress.step r.progress.cause
+ended r = nothing_left r.progress.step r.progress.cause
 
 -- The number of an answer line, by the calls before the line. It makes the command call first, for which it has room enough; a command is then outstanding, but where the
 -- reading has ended. So 5 is left where it has, 7 by the object buffer's size, and 8 by the answer's.
-abbrev pub answerFor : SinceOpen → ℕ → ℕ → ℕ
-answerFor SinceOpen.none size n = 4
-answerFor (SinceOpen.from o object calls) size n = refusalOf (answerConditions since (not (ended (reading (begins since o) (map argumentsOf calls)))) size n)
+abbrev pub answer_for : SinceOpen → ℕ → ℕ → ℕ
+answer_for SinceOpen.none size n = 4
+answer_for (SinceOpen.from o object calls) size n = refusal_of (answer_conditions since (not (ended (reading (begins since o) (map arguments_of calls)))) size n)
 
 -- What a line prints: an opening by document 01's conditions on its values, an answer and a verdict by the reading of the calls before. Of the state g this looks at the
 -- count of the cards and at the size of the object buffer.
-abbrev pub replyFor : SinceOpen → Gate → GateLine → LineReply
-replyFor t g (GateLine.card key) = cond (hasRoom g) Ok Bad
-replyFor t g (GateLine.opening mode date aid) = replyBy (refusalOf (openConditions since mode date aid))
-replyFor t g (GateLine.answer bytes) = replyBy (answerFor t (length g.object) (length bytes))
-replyFor t g (GateLine.verdict kind yesNo fascn) = replyBy (numberFor t (Call.verdict kind yesNo fascn))
-replyFor t g GateLine.bad = Bad
+abbrev pub reply_for : SinceOpen → Gate → GateLine → LineReply
+reply_for t g (GateLine.card key) = cond (has_room g) Ok Bad
+reply_for t g (GateLine.opening mode date aid) = reply_by (refusal_of (open_conditions since mode date aid))
+reply_for t g (GateLine.answer bytes) = reply_by (answer_for t (length g.object) (length bytes))
+reply_for t g (GateLine.verdict kind yes_no fascn) = reply_by (number_for t (Call.verdict kind yes_no fascn))
+reply_for t g GateLine.bad = Bad
 
 -- What is printed for a list of lines.
-unfoldable pub printedFor : Gate → SinceOpen → List (List ℕ) → List ℕ
-printedFor g t [] = []
-printedFor g t (l ∷ ls) = replyText (replyFor t g (lineIn l)) ++ printedFor (gateAfter g (lineIn l)) (sinceLine g t (lineIn l)) ls
+unfoldable pub printed_for : Gate → SinceOpen → List (List ℕ) → List ℕ
+printed_for g t [] = []
+printed_for g t (l ∷ ls) = reply_text (reply_for t g (line_in l)) ++ printed_for (gate_after g (line_in l)) (since_line g t (line_in l)) ls
 
 -- What is printed at the end: the stamp of the finding that is read from that opening and those calls.
-abbrev pub endFor : SinceOpen → List ℕ
-endFor SinceOpen.none = refusedText 4
-endFor (SinceOpen.from o object calls) = stampText (stampOf (finding (reading (begins since o) (map argumentsOf calls))))
+abbrev pub end_for : SinceOpen → List ℕ
+end_for SinceOpen.none = refused_text 4
+end_for (SinceOpen.from o object calls) = stamp_text (stamp_of (finding (reading (begins since o) (map arguments_of calls))))
 
 -- What is promised of the reply to a line.
 pub record ReplyPromised (t : SinceOpen) (g : Gate) (line : GateLine) (reply : LineReply) : Type 0 where
-  pub is : reply ≡ replyFor t g line
+  pub is : reply ≡ reply_for t g line
   -- of an answer line this is the reading's number for the answer call, after the calls before and the command call
-  pub answer : (bytes : List ℕ) → line ≡ GateLine.answer bytes → reply ≡ replyBy (numberFor (withCalls t (commandCall ∷ [])) (Call.answer g.object bytes g.keys))
+  pub answer : (bytes : List ℕ) → line ≡ GateLine.answer bytes → reply ≡ reply_by (number_for (with_calls t (command_call ∷ [])) (Call.answer g.object bytes g.keys))
 
 -- As the contracts of the code carry it: for every object buffer and every list of lines that lead to the session.
 abbrev pub ReplyPromise : Gate → GateLine → LineReply → Type 0
 ReplyPromise g line reply =
-    (object : List ℕ) (ls : List (List ℕ)) → g.session ≡ (runLines (fresh object) ls).session → ReplyPromised (sinceOpen (fresh object) ls) g line reply
+    (object : List ℕ) (ls : List (List ℕ)) → g.session ≡ (run_lines (fresh object) ls).session → ReplyPromised (since_open (fresh object) ls) g line reply
 
 abbrev pub EndPromise : Session → List ℕ → Type 0
-EndPromise s text = (object : List ℕ) (ls : List (List ℕ)) → s ≡ (runLines (fresh object) ls).session → text ≡ endFor (sinceOpen (fresh object) ls)
+EndPromise s text = (object : List ℕ) (ls : List (List ℕ)) → s ≡ (run_lines (fresh object) ls).session → text ≡ end_for (since_open (fresh object) ls)

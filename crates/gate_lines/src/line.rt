@@ -1,8 +1,8 @@
 // A line of the input, without its 0A.
 ghost use Rattle.std.specs.Prelude.{◌≡◌, ◌+◌, ◌≤◌, ◌<◌, length, drop};
 ghost use Rattle.common.specs.Decimal.{spelled};
-ghost use Rattle.gate_lines.specs.Line.{longest, openHead, hexFrom, headed, call_in, lineIn};
-ghost use Rattle.gate_lines.specs.LineCode.{lineBy, Fits};
+ghost use Rattle.gate_lines.specs.Line.{longest, open_head, hex_from, headed, call_in, line_in};
+ghost use Rattle.gate_lines.specs.LineCode.{line_by, Fits};
 
 use card::fascn::Key;
 use ccl::line;
@@ -12,14 +12,14 @@ use text::{form, hex};
 // The most bytes of a line, its 0A not counted; `longest` in the definitions.
 pub(crate) const LONGEST: usize = 1024;
 
-// The bytes before HEX in a line of each kind; `openHead`, `answerHead` and `verdictHead` in the definitions.
+// The bytes before HEX in a line of each kind; `open_head`, `answer_head` and `verdict_head` in the definitions.
 pub(crate) const OPEN_HEAD: usize = 17;
 
 pub(crate) const ANSWER_HEAD: usize = 8;
 
 pub(crate) const VERDICT_HEAD: usize = 13;
 
-// What a line is; the bytes that HEX spells are read from the line when they are needed. `lineBy` gives the whole value.
+// What a line is; the bytes that HEX spells are read from the line when they are needed. `line_by` gives the whole value.
 #[derive(Drop)]
 pub enum Line {
     // a card, with its key
@@ -37,7 +37,7 @@ pub enum Line {
 // What stands from place n on, but for the last byte.
 pub(crate) fn hex_from(s: &[u8], n: usize) -> &[u8]
     requires { n < length s.now }
-    ensures { result.now ≡ hexFrom n s.now }
+    ensures { result.now ≡ hex_from n s.now }
 {
     let end = s.len() - 1;
     &s[n..end]
@@ -45,7 +45,7 @@ pub(crate) fn hex_from(s: &[u8], n: usize) -> &[u8]
 
 // Whether the line is a head of the form of the two strings, then HEX, then `)`.
 fn headed(lowest: &[u8], highest: &[u8], s: &[u8]) -> bool
-    requires { length lowest.now ≤ openHead }
+    requires { length lowest.now ≤ open_head }
     ensures { result ≡ headed lowest.now highest.now s.now }
 {
     let n = lowest.len();
@@ -82,7 +82,7 @@ fn digit_in(s: &[u8], i: usize) -> u8
 // What a line is that is not too long and no card.
 fn call_line(s: &[u8]) -> Line
     requires { length s.now ≤ longest }
-    ensures is { lineBy result s.now ≡ call_in s.now }
+    ensures is { line_by result s.now ≡ call_in s.now }
     ensures fits { Fits result s.now }
 {
     if headed(b"(open 0 00000000 ", b"(open 9 99999999 ", s) {
@@ -99,7 +99,7 @@ fn call_line(s: &[u8]) -> Line
 
 // What a line is.
 pub fn read(s: &[u8]) -> Line
-    ensures is { lineBy result s.now ≡ lineIn s.now }
+    ensures is { line_by result s.now ≡ line_in s.now }
     ensures fits { Fits result s.now }
 {
     if LONGEST < s.len() {

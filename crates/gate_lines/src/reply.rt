@@ -1,7 +1,7 @@
 // What the program prints.
 ghost use Rattle.std.specs.Prelude.{◌≡◌, [], ◌≤◌, length};
-ghost use Rattle.gate_lines.specs.Gate.{text_of, textIn, refusedText, replyText, stampText, endText};
-ghost use Rattle.gate_lines.specs.GateCode.{textWith, TextFits, unprinted};
+ghost use Rattle.gate_lines.specs.Gate.{text_of, text_in, refused_text, reply_text, stamp_text, end_text};
+ghost use Rattle.gate_lines.specs.GateCode.{text_with, TextFits, unprinted};
 ghost use Rattle.gate_lines.specs.Run.{EndPromise};
 
 use crate::state::{LineReply, STAMP_DIGITS, TEXT, Text};
@@ -24,7 +24,7 @@ impl Text {
     // The text with s after it.
     fn with(self, s: &[u8]) -> Text
         requires { TextFits self (length s.now) }
-        ensures { result ≡ textWith self s.now }
+        ensures { result ≡ text_with self s.now }
     {
         let mut bytes = self.bytes;
         let len = self.len;
@@ -52,7 +52,7 @@ fn unprinted(n: u8) -> usize
 
 // `(refused N)`.
 fn refused_text(n: u8) -> Text
-    ensures { result ≡ text_of (refusedText n) }
+    ensures { result ≡ text_of (refused_text n) }
 {
     let digits = [48 + n / 100 % 10, 48 + n / 10 % 10, 48 + n % 10];
     let from = unprinted(n);
@@ -64,7 +64,7 @@ fn refused_text(n: u8) -> Text
 impl LineReply {
     // What a line prints.
     pub fn text(self) -> Text
-        ensures { result ≡ text_of (replyText self) }
+        ensures { result ≡ text_of (reply_text self) }
     {
         match self {
             LineReply::Ok => no_text().with(b"(ok)\n"),
@@ -76,7 +76,7 @@ impl LineReply {
 
 // `(stamp HEX)`.
 fn stamp_text(stamp: &[u8; STAMP]) -> Text
-    ensures is { result ≡ text_of (stampText stamp.now) }
+    ensures is { result ≡ text_of (stamp_text stamp.now) }
     ensures fits { TextFits result 0 }
 {
     let mut digits = [0u8; STAMP_DIGITS];
@@ -88,9 +88,9 @@ fn stamp_text(stamp: &[u8; STAMP]) -> Text
 
 // What is printed at the end: the session's stamp, or the number by which it is refused.
 pub fn end_text(session: Session) -> Text
-    ensures is { result ≡ text_of (endText session) }
+    ensures is { result ≡ text_of (end_text session) }
     ensures fits { TextFits result 0 }
-    ensures for_every_list { EndPromise session (textIn result) }
+    ensures for_every_list { EndPromise session (text_in result) }
 {
     let mut stamp = [0u8; STAMP];
     let answered = session.stamp(&mut stamp);

@@ -1,10 +1,10 @@
 // One line of the program: the calls that it makes, the new state and what it prints.
 ghost use Rattle.std.specs.Prelude.{◌≡◌, cond, [], ◌≤◌, eqb, length};
-ghost use Rattle.text.specs.Hex.{bytesIn};
-ghost use Rattle.session.specs.Operation.{dead, given, openOf, verdictOf};
-ghost use Rattle.gate_lines.specs.Line.{GateLine, longest, lineIn};
-ghost use Rattle.gate_lines.specs.Gate.{gateOf, gateAfter, mostCards, replyBy, replyTo};
-ghost use Rattle.gate_lines.specs.GateCode.{cardsAfter};
+ghost use Rattle.text.specs.Hex.{bytes_in};
+ghost use Rattle.session.specs.Operation.{dead, given, open_of, verdict_of};
+ghost use Rattle.gate_lines.specs.Line.{GateLine, longest, line_in};
+ghost use Rattle.gate_lines.specs.Gate.{gate_of, gate_after, most_cards, reply_by, reply_to};
+ghost use Rattle.gate_lines.specs.GateCode.{cards_after};
 ghost use Rattle.gate_lines.specs.Run.{ReplyPromise};
 ghost use Rattle.gate_lines.specs.declared.state.LineReply.TheVariants.{Refused};
 
@@ -32,7 +32,7 @@ pub fn start() -> State
 
 // `(ok)`, or `(refused N)` where the number is not 0.
 fn reply_by(number: u8) -> LineReply
-    ensures { result ≡ replyBy number }
+    ensures { result ≡ reply_by number }
 {
     if number == 0 {
         LineReply::Ok
@@ -43,7 +43,7 @@ fn reply_by(number: u8) -> LineReply
 
 // The state with the session that a call hands back, and what the call's answer prints.
 fn answered_by(answered: Answered, cards: usize) -> LineRun
-    ensures { (result.reply ≡ replyBy (given answered).0) × (result.state.session ≡ (given answered).1) × (result.state.cards ≡ cards) }
+    ensures { (result.reply ≡ reply_by (given answered).0) × (result.state.session ≡ (given answered).1) × (result.state.cards ≡ cards) }
 {
     let session = answered.session;
     let reply = answered.reply;
@@ -56,10 +56,10 @@ fn answered_by(answered: Answered, cards: usize) -> LineRun
 impl State {
     // A card line: the key is kept after those before it, where there is room.
     fn card_line(self, cards: &mut [u64], key: Key) -> LineRun
-        requires { length cards.old ≡ mostCards }
-        ensures cards_after { gateOf result.state cards.new [] ≡ gateAfter (gateOf self cards.old []) (GateLine.card key.0) }
-        ensures reply_value { result.reply ≡ replyTo (gateOf self cards.old []) (GateLine.card key.0) }
-        ensures cards_after_2 { (result.state.cards, cards.new) ≡ cardsAfter self cards.old (GateLine.card key.0) }
+        requires { length cards.old ≡ most_cards }
+        ensures cards_after { gate_of result.state cards.new [] ≡ gate_after (gate_of self cards.old []) (GateLine.card key.0) }
+        ensures reply_value { result.reply ≡ reply_to (gate_of self cards.old []) (GateLine.card key.0) }
+        ensures cards_after_2 { (result.state.cards, cards.new) ≡ cards_after self cards.old (GateLine.card key.0) }
     {
         let n = self.cards;
         if n < CARDS {
@@ -83,8 +83,8 @@ impl State {
     // An opening: an accepted one replaces the session.
     fn open_line(self, mode: u8, date: u32, spelled: &[u8]) -> LineRun
         requires { length spelled.now ≤ longest }
-        ensures reply_value { result.reply ≡ replyBy (openOf mode date (bytesIn spelled.now)).0 }
-        ensures state_value { result.state ≡ cond (eqb (openOf mode date (bytesIn spelled.now)).0 0) (record { session = (openOf mode date (bytesIn spelled.now)).1; cards = self.cards }) self }
+        ensures reply_value { result.reply ≡ reply_by (open_of mode date (bytes_in spelled.now)).0 }
+        ensures state_value { result.state ≡ cond (eqb (open_of mode date (bytes_in spelled.now)).0 0) (record { session = (open_of mode date (bytes_in spelled.now)).1; cards = self.cards }) self }
     {
         let mut bytes = [0u8; BYTES];
         let n = hex::read(spelled, &mut bytes);
@@ -103,8 +103,8 @@ impl State {
     // An answer: the command call is made first, and the cards so far are lent with the answer.
     fn answer_line(self, cards: &[u64], object: &mut [u8], spelled: &[u8]) -> LineRun
         requires { length spelled.now ≤ longest }
-        ensures object_after { gateOf result.state cards.now object.new ≡ gateAfter (gateOf self cards.now object.old) (GateLine.answer (bytesIn spelled.now)) }
-        ensures reply_value { result.reply ≡ replyTo (gateOf self cards.now object.old) (GateLine.answer (bytesIn spelled.now)) }
+        ensures object_after { gate_of result.state cards.now object.new ≡ gate_after (gate_of self cards.now object.old) (GateLine.answer (bytes_in spelled.now)) }
+        ensures reply_value { result.reply ≡ reply_to (gate_of self cards.now object.old) (GateLine.answer (bytes_in spelled.now)) }
         ensures cards_value { result.state.cards ≡ self.cards }
     {
         let mut bytes = [0u8; BYTES];
@@ -121,8 +121,8 @@ impl State {
     // A verdict.
     fn verdict_line(self, kind: u8, yes: u8, spelled: &[u8]) -> LineRun
         requires { length spelled.now ≤ longest }
-        ensures reply_value { result.reply ≡ replyBy (verdictOf self.session kind yes (bytesIn spelled.now)).0 }
-        ensures state_value { result.state ≡ record { session = (verdictOf self.session kind yes (bytesIn spelled.now)).1; cards = self.cards } }
+        ensures reply_value { result.reply ≡ reply_by (verdict_of self.session kind yes (bytes_in spelled.now)).0 }
+        ensures state_value { result.state ≡ record { session = (verdict_of self.session kind yes (bytes_in spelled.now)).1; cards = self.cards } }
     {
         let mut bytes = [0u8; BYTES];
         let n = hex::read(spelled, &mut bytes);
@@ -133,10 +133,10 @@ impl State {
 
     // One line: the state after it, and what it prints.
     pub fn run_line(self, cards: &mut [u64; CARDS], object: &mut [u8; OBJECT], s: &[u8]) -> LineRun
-        ensures state { gateOf result.state cards.new object.new ≡ gateAfter (gateOf self cards.old object.old) (lineIn s.now) }
-        ensures reply { result.reply ≡ replyTo (gateOf self cards.old object.old) (lineIn s.now) }
-        ensures places { (result.state.cards, cards.new) ≡ cardsAfter self cards.old (lineIn s.now) }
-        ensures for_every_list { ReplyPromise (gateOf self cards.old object.old) (lineIn s.now) result.reply }
+        ensures state { gate_of result.state cards.new object.new ≡ gate_after (gate_of self cards.old object.old) (line_in s.now) }
+        ensures reply { result.reply ≡ reply_to (gate_of self cards.old object.old) (line_in s.now) }
+        ensures places { (result.state.cards, cards.new) ≡ cards_after self cards.old (line_in s.now) }
+        ensures for_every_list { ReplyPromise (gate_of self cards.old object.old) (line_in s.now) result.reply }
         ensures never_seven { result.reply ≡ Refused 7 → ⊥ }
     {
         let kind = line::read(s);

@@ -2,10 +2,10 @@
 use session::figures::STAMP;
 use session::state::Session;
 
-// How many cards are kept; `mostCards` in the definitions.
+// How many cards are kept; `most_cards` in the definitions.
 pub const CARDS: usize = 1024;
 
-// The digits of a stamp, and the most bytes that are printed at once: `(stamp `, these digits, `)` and 0A; `textSize` in the definitions.
+// The digits of a stamp, and the most bytes that are printed at once: `(stamp `, these digits, `)` and 0A; `text_size` in the definitions.
 pub(crate) const STAMP_DIGITS: usize = 2 * STAMP;
 
 pub const TEXT: usize = 7 + STAMP_DIGITS + 2;

@@ -5,14 +5,14 @@
 // write said that it was taken; and what is handed on at the end is the text of the definitions, or nothing where a read or a write failed. `one_block` alone
 // reads, `write_out` and `complain` alone write.
 ghost use Rattle.std.specs.Prelude.{◌≡◌, ◌+◌, ◌-◌, ◌*◌, ◌≤◌, ◌<◌, length, take, replicate};
-ghost use Rattle.common.specs.Lists.{overFront, overPlaces};
+ghost use Rattle.common.specs.Lists.{over_front, over_places};
 ghost use Rattle.io.specs.Counts.{clamp_len};
-ghost use Rattle.session.specs.Tables.{objectSize};
-ghost use Rattle.gate_lines.specs.Gate.{textIn};
+ghost use Rattle.session.specs.Tables.{object_size};
+ghost use Rattle.gate_lines.specs.Gate.{text_in};
 ghost use Rattle.gate_lines.specs.GateCode.{TextFits};
-ghost use Rattle.gate_lines.specs.Input.{inputStateOf, inputAfter, textOfInput};
-ghost use Rattle.gate_lines.specs.InputCode.{partFrom};
-ghost use Rattle.gate_stream.specs.Stream.{readSize, replyMost, outSize, goesOn, readFails, stops, Fed, endingText, EndsFor};
+ghost use Rattle.gate_lines.specs.Input.{input_state_of, input_after, text_of_input};
+ghost use Rattle.gate_lines.specs.InputCode.{part_from};
+ghost use Rattle.gate_stream.specs.Stream.{read_size, reply_most, out_size, goes_on, read_fails, stops, Fed, ending_text, EndsFor};
 
 use common::slice;
 use gate_lines::input::HELD;
@@ -20,8 +20,8 @@ use gate_lines::state::{CARDS, State, Text};
 use gate_lines::{reply, run};
 use session::figures::OBJECT;
 
-// How many bytes are read at once, the most bytes that a byte of the input prints, and the room for what a block prints; `readSize`, `replyMost` and
-// `outSize` in the definitions.
+// How many bytes are read at once, the most bytes that a byte of the input prints, and the room for what a block prints; `read_size`, `reply_most` and
+// `out_size` in the definitions.
 pub const READ: usize = 16384;
 
 const REPLY_MOST: usize = 14;
@@ -66,8 +66,8 @@ pub struct Ending {
 // A text, stored in out from place `at` on; the place after it.
 fn add(out: &mut [u8], at: usize, text: Text) -> usize
     requires { TextFits text 0 × (at + text.len ≤ length out.old) }
-    ensures is { result ≡ at + length (textIn text) }
-    ensures stores { out.new ≡ overPlaces out.old at (textIn text) }
+    ensures is { result ≡ at + length (text_in text) }
+    ensures stores { out.new ≡ over_places out.old at (text_in text) }
 {
     let bytes = text.bytes;
     let len = text.len;
@@ -84,10 +84,10 @@ fn one_line(
     out: &mut [u8],
     block: &[u8],
 ) -> BlockState
-    requires { (at.used < length block.now) × (at.gathered + replyMost * (length block.now - at.used) ≤ length out.old) }
-    ensures state { inputStateOf result.state result.held cards.new object.new line.new ≡ inputAfter (inputStateOf at.state at.held cards.old object.old line.old) (partFrom block.now at.used result.used) }
-    ensures prints { out.new ≡ overPlaces out.old at.gathered (textOfInput (inputStateOf at.state at.held cards.old object.old line.old) (partFrom block.now at.used result.used)) }
-    ensures gathered { result.gathered ≡ at.gathered + length (textOfInput (inputStateOf at.state at.held cards.old object.old line.old) (partFrom block.now at.used result.used)) }
+    requires { (at.used < length block.now) × (at.gathered + reply_most * (length block.now - at.used) ≤ length out.old) }
+    ensures state { input_state_of result.state result.held cards.new object.new line.new ≡ input_after (input_state_of at.state at.held cards.old object.old line.old) (part_from block.now at.used result.used) }
+    ensures prints { out.new ≡ over_places out.old at.gathered (text_of_input (input_state_of at.state at.held cards.old object.old line.old) (part_from block.now at.used result.used)) }
+    ensures gathered { result.gathered ≡ at.gathered + length (text_of_input (input_state_of at.state at.held cards.old object.old line.old) (part_from block.now at.used result.used)) }
     ensures onward { (at.used < result.used) × (result.used ≤ length block.now) }
 {
     let state = at.state;
@@ -112,10 +112,10 @@ fn run_block(
     out: &mut [u8],
     block: &[u8],
 ) -> BlockState
-    requires { (start.used ≡ 0) × (start.gathered ≡ 0) × (length out.old ≡ outSize) × (length block.now ≤ readSize) }
-    ensures state { inputStateOf result.state result.held cards.new object.new line.new ≡ inputAfter (inputStateOf start.state start.held cards.old object.old line.old) block.now }
-    ensures prints { out.new ≡ overFront (textOfInput (inputStateOf start.state start.held cards.old object.old line.old) block.now) out.old }
-    ensures gathered { (result.gathered ≡ length (textOfInput (inputStateOf start.state start.held cards.old object.old line.old) block.now)) × (result.gathered ≤ outSize) }
+    requires { (start.used ≡ 0) × (start.gathered ≡ 0) × (length out.old ≡ out_size) × (length block.now ≤ read_size) }
+    ensures state { input_state_of result.state result.held cards.new object.new line.new ≡ input_after (input_state_of start.state start.held cards.old object.old line.old) block.now }
+    ensures prints { out.new ≡ over_front (text_of_input (input_state_of start.state start.held cards.old object.old line.old) block.now) out.old }
+    ensures gathered { (result.gathered ≡ length (text_of_input (input_state_of start.state start.held cards.old object.old line.old) block.now)) × (result.gathered ≤ out_size) }
 {
     let mut at = start;
     while at.used < block.len() {
@@ -143,10 +143,10 @@ fn one_block(
     input: &mut [u8],
     out: &mut [u8],
 ) -> InputRun
-    requires { (length input.old ≡ readSize) × (length out.old ≡ outSize) }
-    ensures state { inputStateOf result.state result.held cards.new object.new line.new ≡ inputAfter (inputStateOf start.state start.held cards.old object.old line.old) (take (clamp_len result.got readSize) input.new) }
-    ensures prints { out.new ≡ overFront (textOfInput (inputStateOf start.state start.held cards.old object.old line.old) (take (clamp_len result.got readSize) input.new)) out.old }
-    ensures written { result.wrote.count ≡ length (textOfInput (inputStateOf start.state start.held cards.old object.old line.old) (take (clamp_len result.got readSize) input.new)) }
+    requires { (length input.old ≡ read_size) × (length out.old ≡ out_size) }
+    ensures state { input_state_of result.state result.held cards.new object.new line.new ≡ input_after (input_state_of start.state start.held cards.old object.old line.old) (take (clamp_len result.got read_size) input.new) }
+    ensures prints { out.new ≡ over_front (text_of_input (input_state_of start.state start.held cards.old object.old line.old) (take (clamp_len result.got read_size) input.new)) out.old }
+    ensures written { result.wrote.count ≡ length (text_of_input (input_state_of start.state start.held cards.old object.old line.old) (take (clamp_len result.got read_size) input.new)) }
 {
     let got = libc::read(fd, input);
     let n = io::count(got, input);
@@ -170,14 +170,14 @@ fn one_block(
 
 // Whether the program goes on: the read gave bytes, and standard output took what they print.
 fn goes_on(got: isize, taken: bool) -> bool
-    ensures { result ≡ goesOn got taken }
+    ensures { result ≡ goes_on got taken }
 {
     (got > 0) & taken
 }
 
 // Whether the read failed.
 fn read_fails(got: isize) -> bool
-    ensures { result ≡ readFails got }
+    ensures { result ≡ read_fails got }
 {
     got < 0
 }
@@ -199,8 +199,8 @@ fn run_input(
     input: &mut [u8],
     out: &mut [u8],
 ) -> InputRun
-    requires { (length input.old ≡ readSize) × (length out.old ≡ outSize) }
-    ensures { Fed (inputStateOf start.state start.held cards.old object.old line.old) (inputStateOf result.state result.held cards.new object.new line.new) (goesOn result.got result.wrote.taken) }
+    requires { (length input.old ≡ read_size) × (length out.old ≡ out_size) }
+    ensures { Fed (input_state_of start.state start.held cards.old object.old line.old) (input_state_of result.state result.held cards.new object.new line.new) (goes_on result.got result.wrote.taken) }
 {
     let mut at = start;
     let mut turns = u64::MAX;
@@ -219,10 +219,10 @@ fn last_text(
     line: &[u8; HELD],
     out: &mut [u8],
 ) -> usize
-    requires { length out.old ≡ outSize }
-    ensures is { result ≡ length (endingText (inputStateOf at.state at.held cards.old object.old line.now)) }
-    ensures prints { out.new ≡ overFront (endingText (inputStateOf at.state at.held cards.old object.old line.now)) out.old }
-    ensures inside { result ≤ outSize }
+    requires { length out.old ≡ out_size }
+    ensures is { result ≡ length (ending_text (input_state_of at.state at.held cards.old object.old line.now)) }
+    ensures prints { out.new ≡ over_front (ending_text (input_state_of at.state at.held cards.old object.old line.now)) out.old }
+    ensures inside { result ≤ out_size }
 {
     let state = at.state;
     let last = state.last(at.held, cards, object, line);
@@ -243,7 +243,7 @@ fn run_whole(
     input: &mut [u8],
     out: &mut [u8],
 ) -> Ending
-    requires { (length input.old ≡ readSize) × (length out.old ≡ outSize) }
+    requires { (length input.old ≡ read_size) × (length out.old ≡ out_size) }
     ensures for_every_list { EndsFor object.old out.new result }
 {
     let state = run::start();
@@ -293,7 +293,7 @@ fn with_reason(end: Ending) -> Ending
 
 // The program on the file descriptor fd. What it prints at the end stands at the front of out.
 pub fn run_gate(fd: i32, input: &mut [u8; READ], out: &mut [u8; OUT]) -> Ending
-    ensures for_every_list { EndsFor (replicate objectSize 0) out.new result }
+    ensures for_every_list { EndsFor (replicate object_size 0) out.new result }
 {
     let mut cards = [0u64; CARDS];
     let mut object = [0u8; OBJECT];

@@ -1,9 +1,9 @@
 // The image of a session: its values as a fixed number of bytes, a version byte first, and the session of an image. Numbers of several bytes stand with the highest byte first, as in the
 // stamp.
 ghost use Rattle.std.specs.Prelude.{◌≡◌, ◌+◌, ◌≤◌, [], ◌++◌, length, get_or, take, drop};
-ghost use Rattle.common.specs.Lists.{overPlaces};
-ghost use Rattle.card.specs.Object.{mostFields};
-ghost use Rattle.host.specs.Image.{partBytes, partsBytes, partOfBytes, PartFits, PartsFit, flagByte, nextKind, nextByte, nextIn, segmentsIn, openingIn, progressIn, cardIn, isImage, load_of, saveOf};
+ghost use Rattle.common.specs.Lists.{over_places};
+ghost use Rattle.card.specs.Object.{most_fields};
+ghost use Rattle.host.specs.Image.{part_bytes, parts_bytes, part_of_bytes, PartFits, PartsFit, flag_byte, next_kind, next_byte, next_in, segments_in, opening_in, progress_in, card_in, is_image, load_of, save_of};
 
 use crate::number;
 use card::command::AID_MOST;
@@ -14,11 +14,11 @@ use session::figures::CHECKS;
 use session::state::{Card, Next, Session, SessionOpening, SessionProgress};
 use session::{arrays, open};
 
-// The version of the layout; `imageVersion` in the definitions.
+// The version of the layout; `image_version` in the definitions.
 pub const VERSION: u8 = 1;
 
 // The segments of an image: nine values of one byte each; date, expiry, AID length and filled; the AID, the outcomes and the FASC-N; the parts of step 1's object and the part of
-// step 2's. Their sizes are `segmentSizes` in the definitions.
+// step 2's. Their sizes are `segment_sizes` in the definitions.
 const SMALL: usize = 9;
 
 const PART: usize = 8;
@@ -41,18 +41,18 @@ const STEP_1_AT: usize = FASCN_AT + FASCN_BYTES;
 
 const STEP_2_AT: usize = STEP_1_AT + FIELDS * PART;
 
-// How many bytes an image has; `imageSize` in the definitions.
+// How many bytes an image has; `image_size` in the definitions.
 pub const IMAGE: usize = STEP_2_AT + PART;
 
 fn flag_byte(b: bool) -> u8
-    ensures { result ≡ flagByte b }
+    ensures { result ≡ flag_byte b }
 {
     if b { 1 } else { 0 }
 }
 
 // Which of the four the next command is, and its byte, 0 for the step's own.
 fn next_kind(next: Next) -> u8
-    ensures { result ≡ nextKind next }
+    ensures { result ≡ next_kind next }
 {
     match next {
         Next::Initial => 0,
@@ -63,7 +63,7 @@ fn next_kind(next: Next) -> u8
 }
 
 fn next_byte(next: Next) -> u8
-    ensures { result ≡ nextByte next }
+    ensures { result ≡ next_byte next }
 {
     match next {
         Next::Initial => 0,
@@ -74,7 +74,7 @@ fn next_byte(next: Next) -> u8
 }
 
 fn next_in(kind: u8, byte: u8) -> Next
-    ensures { result ≡ nextIn kind byte }
+    ensures { result ≡ next_in kind byte }
 {
     if kind == 1 {
         return Next::GetResponse(byte);
@@ -91,7 +91,7 @@ fn next_in(kind: u8, byte: u8) -> Next
 // A part, stored from place `at` on: its start and its length.
 fn put_part(out: &mut [u8], at: usize, p: Part)
     requires { at + 8 ≤ length out.old }
-    ensures is { out.new ≡ overPlaces out.old at (partBytes p) }
+    ensures is { out.new ≡ over_places out.old at (part_bytes p) }
     ensures fits { PartFits p }
 {
     number::put_four(out, at, p.start);
@@ -101,7 +101,7 @@ fn put_part(out: &mut [u8], at: usize, p: Part)
 // Three parts, one after another.
 fn put_three(out: &mut [u8], at: usize, p: Part, q: Part, r: Part)
     requires { at + 24 ≤ length out.old }
-    ensures is { out.new ≡ overPlaces out.old at (partBytes p ++ partBytes q ++ partBytes r) }
+    ensures is { out.new ≡ over_places out.old at (part_bytes p ++ part_bytes q ++ part_bytes r) }
     ensures fit { PartFits p × PartFits q × PartFits r }
 {
     put_part(out, at, p);
@@ -111,13 +111,13 @@ fn put_three(out: &mut [u8], at: usize, p: Part, q: Part, r: Part)
 
 // An array that comes out of a struct has its length: a caller learns it here.
 fn sized_parts(parts: [Part; FIELDS])
-    ensures { length parts ≡ mostFields }
+    ensures { length parts ≡ most_fields }
 {}
 
 // The parts of step 1's object.
 fn put_parts(out: &mut [u8], at: usize, parts: [Part; FIELDS])
     requires { at + 72 ≤ length out.old }
-    ensures is { out.new ≡ overPlaces out.old at (partsBytes parts) }
+    ensures is { out.new ≡ over_places out.old at (parts_bytes parts) }
     ensures fit { PartsFit parts }
 {
     sized_parts(parts);
@@ -128,7 +128,7 @@ fn put_parts(out: &mut [u8], at: usize, parts: [Part; FIELDS])
 
 fn part_at(s: &[u8], at: usize) -> Part
     requires { at + 8 ≤ length s.now }
-    ensures { result ≡ partOfBytes (take 8 (drop at s.now)) }
+    ensures { result ≡ part_of_bytes (take 8 (drop at s.now)) }
 {
     Part {
         start: number::four_at(s, at),
@@ -138,7 +138,7 @@ fn part_at(s: &[u8], at: usize) -> Part
 
 // The session's image. It has the session again, for every session that the types allow.
 pub fn save(s: Session, image: &mut [u8; IMAGE])
-    ensures is { image.new ≡ saveOf s }
+    ensures is { image.new ≡ save_of s }
     ensures again { load_of image.new ≡ s }
 {
     let opening = s.opening;
@@ -177,14 +177,14 @@ pub fn save(s: Session, image: &mut [u8; IMAGE])
 
 // Whether the bytes are some session's image.
 pub fn is_image(image: &[u8; IMAGE]) -> bool
-    ensures { result ≡ isImage image.now }
+    ensures { result ≡ is_image image.now }
 {
     let next = (image[4] <= 3) & ((1 <= image[4]) | (image[5] == 0));
     (image[0] == VERSION) & ((image[3] <= 1) & next)
 }
 
 fn opening_in(image: &[u8; IMAGE]) -> SessionOpening
-    ensures { result ≡ openingIn (segmentsIn image.now) }
+    ensures { result ≡ opening_in (segments_in image.now) }
 {
     let mut aid = [0u8; AID_MOST];
     slice::store(&mut aid, 0, slice::part(image, AID_AT, AID_MOST));
@@ -197,7 +197,7 @@ fn opening_in(image: &[u8; IMAGE]) -> SessionOpening
 }
 
 fn progress_in(image: &[u8; IMAGE]) -> SessionProgress
-    ensures { result ≡ progressIn (segmentsIn image.now) }
+    ensures { result ≡ progress_in (segments_in image.now) }
 {
     let next = next_in(image[4], image[5]);
     SessionProgress {
@@ -212,7 +212,7 @@ fn progress_in(image: &[u8; IMAGE]) -> SessionProgress
 }
 
 fn outcomes_in(image: &[u8; IMAGE]) -> [u8; CHECKS]
-    ensures { result ≡ get_or (segmentsIn image.now) 6 [] }
+    ensures { result ≡ get_or (segments_in image.now) 6 [] }
 {
     let mut outcomes = [0u8; CHECKS];
     slice::store(&mut outcomes, 0, slice::part(image, OUTCOMES_AT, CHECKS));
@@ -220,7 +220,7 @@ fn outcomes_in(image: &[u8; IMAGE]) -> [u8; CHECKS]
 }
 
 fn step1_in(image: &[u8; IMAGE]) -> [Part; FIELDS]
-    ensures { result ≡ (cardIn (segmentsIn image.now)).step1 }
+    ensures { result ≡ (card_in (segments_in image.now)).step1 }
 {
     [
         part_at(image, STEP_1_AT),
@@ -236,7 +236,7 @@ fn step1_in(image: &[u8; IMAGE]) -> [Part; FIELDS]
 }
 
 fn card_in(image: &[u8; IMAGE]) -> Card
-    ensures { result ≡ cardIn (segmentsIn image.now) }
+    ensures { result ≡ card_in (segments_in image.now) }
 {
     let mut fascn = [0u8; FASCN_BYTES];
     slice::store(&mut fascn, 0, slice::part(image, FASCN_AT, FASCN_BYTES));

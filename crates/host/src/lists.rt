@@ -1,9 +1,9 @@
 // Cancelled card lists for C and Rust: read from text, written, merged, and a number looked up in the visual list.
 ghost use Rattle.std.specs.Prelude.{◌≡◌, length};
-ghost use Rattle.ccl.specs.ListText.{read_of, keysAfter, writeOf, textAfter};
-ghost use Rattle.ccl.specs.Merge.{mergeOf, mergedAfter};
-ghost use Rattle.ccl.specs.Visual.{malformedVisual, typed_of};
-ghost use Rattle.host.specs.Call.{whereNumber};
+ghost use Rattle.ccl.specs.ListText.{read_of, keys_after, write_of, text_after};
+ghost use Rattle.ccl.specs.Merge.{merge_of, merged_after};
+ghost use Rattle.ccl.specs.Visual.{malformed_visual, typed_of};
+ghost use Rattle.host.specs.Call.{where_number};
 
 use crate::number;
 use ccl::visual::MALFORMED_VISUAL;
@@ -18,9 +18,9 @@ pub extern "C" fn gate_list_read(
     line: &mut usize,
 ) -> u8
     ensures number { result ≡ (read_of text.now (length keys.old)).0 }
-    ensures counts { count.new ≡ whereNumber 0 result (read_of text.now (length keys.old)).1 count.old }
-    ensures names { line.new ≡ whereNumber 20 result (read_of text.now (length keys.old)).1 line.old }
-    ensures is { keys.new ≡ keysAfter text.now keys.old }
+    ensures counts { count.new ≡ where_number 0 result (read_of text.now (length keys.old)).1 count.old }
+    ensures names { line.new ≡ where_number 20 result (read_of text.now (length keys.old)).1 line.old }
+    ensures is { keys.new ≡ keys_after text.now keys.old }
 {
     let answer = list::read(text, keys);
     let n = answer.number();
@@ -33,9 +33,9 @@ pub extern "C" fn gate_list_read(
 // List write: the lines of the keys to the front of out, and how many keys to count.
 #[unsafe(no_mangle)]
 pub extern "C" fn gate_list_write(keys: &[u64], out: &mut [u8], count: &mut usize) -> u8
-    ensures number { result ≡ (writeOf keys.now (length out.old)).0 }
-    ensures counts { count.new ≡ whereNumber 0 result (writeOf keys.now (length out.old)).1 count.old }
-    ensures is { out.new ≡ textAfter keys.now out.old }
+    ensures number { result ≡ (write_of keys.now (length out.old)).0 }
+    ensures counts { count.new ≡ where_number 0 result (write_of keys.now (length out.old)).1 count.old }
+    ensures is { out.new ≡ text_after keys.now out.old }
 {
     let answer = list::write(keys, out);
     let n = answer.number();
@@ -51,9 +51,9 @@ pub extern "C" fn gate_list_merge(
     out: &mut [u64],
     count: &mut usize,
 ) -> u8
-    ensures number { result ≡ (mergeOf official.now own.now (length out.old)).0 }
-    ensures counts { count.new ≡ whereNumber 0 result (mergeOf official.now own.now (length out.old)).1 count.old }
-    ensures is { out.new ≡ mergedAfter official.now own.now out.old }
+    ensures number { result ≡ (merge_of official.now own.now (length out.old)).0 }
+    ensures counts { count.new ≡ where_number 0 result (merge_of official.now own.now (length out.old)).1 count.old }
+    ensures is { out.new ≡ merged_after official.now own.now out.old }
 {
     let answer = merge::merge(official, own, out);
     let n = answer.number();
@@ -70,8 +70,8 @@ pub extern "C" fn gate_cin_look_up(
     line: &mut usize,
 ) -> u8
     ensures number { result ≡ (typed_of typed.now text.now).0 }
-    ensures says { listed.new ≡ whereNumber 0 result (typed_of typed.now text.now).1 listed.old }
-    ensures names { line.new ≡ whereNumber malformedVisual result (typed_of typed.now text.now).1 line.old }
+    ensures says { listed.new ≡ where_number 0 result (typed_of typed.now text.now).1 listed.old }
+    ensures names { line.new ≡ where_number malformed_visual result (typed_of typed.now text.now).1 line.old }
 {
     let answer = visual::look_up(typed, text);
     let n = answer.number();

@@ -1,10 +1,10 @@
 // The session's calls over its image, for C and Rust. Each gives the papers' number, 0 where it is accepted; a refused one leaves every byte as it was.
 ghost use Rattle.std.specs.Prelude.{◌≡◌, length};
 ghost use Rattle.card.specs.Object.{bytes_at};
-ghost use Rattle.session.specs.Operation.{replyNumber, given, openOf, commandOf, commandBuffer, answer_of, answerBuffer, verdictOf, fieldPlace, stampAnswer, stampBuffer, previewOf};
+ghost use Rattle.session.specs.Operation.{reply_number, given, open_of, command_of, command_buffer, answer_of, answer_buffer, verdict_of, field_place, stamp_answer, stamp_buffer, preview_of};
 ghost use Rattle.session.specs.Promise.{OpenPromise, CommandPromise, AnswerPromise, VerdictPromise, FieldPromise, StampPromise, PreviewPromise};
 ghost use Rattle.host.specs.Image.{load_of};
-ghost use Rattle.host.specs.Call.{imageAfter, whereNumber, placeGiven};
+ghost use Rattle.host.specs.Call.{image_after, where_number, place_given};
 
 use crate::image::IMAGE;
 use crate::{image, number};
@@ -21,8 +21,8 @@ pub struct FieldPlace {
 
 // The session that a call hands back is saved where the call is accepted; its number.
 fn keep(x: Answered, image: &mut [u8; IMAGE]) -> u8
-    ensures number { result ≡ replyNumber x.reply }
-    ensures is { image.new ≡ imageAfter image.old (given x) }
+    ensures number { result ≡ reply_number x.reply }
+    ensures is { image.new ≡ image_after image.old (given x) }
     ensures again { result ≡ 0 → load_of image.new ≡ x.session }
 {
     let reply = x.reply;
@@ -36,8 +36,8 @@ fn keep(x: Answered, image: &mut [u8; IMAGE]) -> u8
 // Open: an accepted opening puts its session into the image. A refused one leaves what was there, as every refused call does.
 #[unsafe(no_mangle)]
 pub extern "C" fn gate_open(image: &mut [u8; IMAGE], mode: u8, date: u32, aid: &[u8]) -> u8
-    ensures number { result ≡ (openOf mode date aid.now).0 }
-    ensures is { image.new ≡ imageAfter image.old (openOf mode date aid.now) }
+    ensures number { result ≡ (open_of mode date aid.now).0 }
+    ensures is { image.new ≡ image_after image.old (open_of mode date aid.now) }
     ensures for_every_list { OpenPromise mode date aid.now result (load_of image.new) }
 {
     keep(open::open(mode, date, aid), image)
@@ -46,11 +46,11 @@ pub extern "C" fn gate_open(image: &mut [u8; IMAGE], mode: u8, date: u32, aid: &
 // Command: its bytes at the front of out, and their count.
 #[unsafe(no_mangle)]
 pub extern "C" fn gate_command(image: &mut [u8; IMAGE], out: &mut [u8], count: &mut usize) -> u8
-    ensures number { result ≡ (commandOf (load_of image.old) (length out.old)).0 }
-    ensures counts { count.new ≡ whereNumber 0 result (commandOf (load_of image.old) (length out.old)).1 count.old }
-    ensures is { image.new ≡ imageAfter image.old (result, (commandOf (load_of image.old) (length out.old)).2) }
-    ensures buffer { out.new ≡ commandBuffer (load_of image.old) out.old }
-    ensures for_every_list { CommandPromise (load_of image.old) out.old out.new result (whereNumber 0 result count.new 0) (load_of image.new) }
+    ensures number { result ≡ (command_of (load_of image.old) (length out.old)).0 }
+    ensures counts { count.new ≡ where_number 0 result (command_of (load_of image.old) (length out.old)).1 count.old }
+    ensures is { image.new ≡ image_after image.old (result, (command_of (load_of image.old) (length out.old)).2) }
+    ensures buffer { out.new ≡ command_buffer (load_of image.old) out.old }
+    ensures for_every_list { CommandPromise (load_of image.old) out.old out.new result (where_number 0 result count.new 0) (load_of image.new) }
 {
     let sent = image::load(image).command(out);
     let session = sent.session;
@@ -69,8 +69,8 @@ pub extern "C" fn gate_answer(
     cancelled: &[u64],
 ) -> u8
     ensures number { result ≡ (answer_of (load_of image.old) object.old answer.now cancelled.now).0 }
-    ensures is { image.new ≡ imageAfter image.old (answer_of (load_of image.old) object.old answer.now cancelled.now) }
-    ensures buffer { object.new ≡ answerBuffer (load_of image.old) object.old answer.now }
+    ensures is { image.new ≡ image_after image.old (answer_of (load_of image.old) object.old answer.now cancelled.now) }
+    ensures buffer { object.new ≡ answer_buffer (load_of image.old) object.old answer.now }
     ensures for_every_list { AnswerPromise (load_of image.old) object.old answer.now cancelled.now object.new result (load_of image.new) }
 {
     let answered = image::load(image).answer(object, answer, cancelled);
@@ -80,8 +80,8 @@ pub extern "C" fn gate_answer(
 // Verdict.
 #[unsafe(no_mangle)]
 pub extern "C" fn gate_verdict(image: &mut [u8; IMAGE], kind: u8, yes: u8, fascn: &[u8]) -> u8
-    ensures number { result ≡ (verdictOf (load_of image.old) kind yes fascn.now).0 }
-    ensures is { image.new ≡ imageAfter image.old (verdictOf (load_of image.old) kind yes fascn.now) }
+    ensures number { result ≡ (verdict_of (load_of image.old) kind yes fascn.now).0 }
+    ensures is { image.new ≡ image_after image.old (verdict_of (load_of image.old) kind yes fascn.now) }
     ensures for_every_list { VerdictPromise (load_of image.old) kind yes fascn.now result (load_of image.new) }
 {
     let answered = image::load(image).verdict(kind, yes, fascn);
@@ -97,7 +97,7 @@ pub extern "C" fn gate_preview(
     fascn: &[u8],
     out: &mut [u8],
 ) -> u8
-    ensures is { (result, out.new) ≡ previewOf (load_of image.now) kind yes fascn.now out.old }
+    ensures is { (result, out.new) ≡ preview_of (load_of image.now) kind yes fascn.now out.old }
     ensures for_every_list { PreviewPromise (load_of image.now) kind yes fascn.now out.old out.new result }
 {
     let reply = image::load(image).preview(kind, yes, fascn, out);
@@ -107,8 +107,8 @@ pub extern "C" fn gate_preview(
 // Field: where its value lies in the object buffer; no bytes where the field call gives the empty part.
 #[unsafe(no_mangle)]
 pub extern "C" fn gate_field(image: &[u8; IMAGE], object: &[u8], tag: u8) -> FieldPlace
-    ensures is { placeGiven result ≡ fieldPlace (load_of image.now) (length object.now) tag }
-    ensures for_every_list { FieldPromise (load_of image.now) object.now tag (bytes_at object.now (placeGiven result)) }
+    ensures is { place_given result ≡ field_place (load_of image.now) (length object.now) tag }
+    ensures for_every_list { FieldPromise (load_of image.now) object.now tag (bytes_at object.now (place_given result)) }
 {
     let place = image::load(image).place(object.len(), tag);
     FieldPlace {
@@ -120,8 +120,8 @@ pub extern "C" fn gate_field(image: &[u8; IMAGE], object: &[u8], tag: u8) -> Fie
 // Stamp: the first 46 bytes of out.
 #[unsafe(no_mangle)]
 pub extern "C" fn gate_stamp(image: &[u8; IMAGE], out: &mut [u8]) -> u8
-    ensures number { result ≡ (stampAnswer (load_of image.now) (length out.old)).0 }
-    ensures is { out.new ≡ stampBuffer (load_of image.now) out.old }
+    ensures number { result ≡ (stamp_answer (load_of image.now) (length out.old)).0 }
+    ensures is { out.new ≡ stamp_buffer (load_of image.now) out.old }
     ensures for_every_list { StampPromise (load_of image.now) out.old out.new result (load_of image.now) }
 {
     let answered = image::load(image).stamp(out);

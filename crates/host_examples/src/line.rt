@@ -1,11 +1,11 @@
 // The text of a line: a word, numbers in decimal and bytes in hexadecimal, each after a space.
 ghost use Rattle.std.specs.Prelude.{length};
 ghost use Rattle.append.specs.Append.{Added};
-ghost use Rattle.host_examples.specs.LineText.{numberPart, numbersPart, bytesPart, lineText};
+ghost use Rattle.host_examples.specs.LineText.{number_part, numbers_part, bytes_part, line_text};
 
 // A number.
 fn add_number(out: &mut [u8], at: usize, n: u64) -> usize
-    ensures { Added out.old at out.new result (numberPart n) }
+    ensures { Added out.old at out.new result (number_part n) }
 {
     let space = append::add(out, at, b" ");
     append::add_decimal(out, space, n)
@@ -13,7 +13,7 @@ fn add_number(out: &mut [u8], at: usize, n: u64) -> usize
 
 // Numbers, one after another.
 fn add_numbers(out: &mut [u8], at: usize, numbers: &[u64]) -> usize
-    ensures { Added out.old at out.new result (numbersPart numbers.now) }
+    ensures { Added out.old at out.new result (numbers_part numbers.now) }
 {
     let mut end = append::add(out, at, b"");
     for i in 0..numbers.len() {
@@ -24,7 +24,7 @@ fn add_numbers(out: &mut [u8], at: usize, numbers: &[u64]) -> usize
 
 // Bytes; nothing where there are none.
 fn add_bytes(out: &mut [u8], at: usize, bytes: &[u8]) -> usize
-    ensures { Added out.old at out.new result (bytesPart bytes.now) }
+    ensures { Added out.old at out.new result (bytes_part bytes.now) }
 {
     if bytes.len() == 0 {
         return append::add(out, at, b"");
@@ -35,7 +35,7 @@ fn add_bytes(out: &mut [u8], at: usize, bytes: &[u8]) -> usize
 
 // The line, from the first place on.
 pub(crate) fn add_line(out: &mut [u8], word: &[u8], numbers: &[u64], bytes: &[u8]) -> usize
-    ensures { Added out.old 0 out.new result (lineText word.now numbers.now bytes.now) }
+    ensures { Added out.old 0 out.new result (line_text word.now numbers.now bytes.now) }
 {
     let head = append::add(out, 0, word);
     let counted = add_numbers(out, head, numbers);

@@ -7,19 +7,19 @@ use native.Mathlib.Omega.{arith}
 use lib.ListN.{length, take, drop}
 use lib.Seq.{take-append_seam, take-append-add, take-add, take-append-le, drop_at, length-take-le, take-take}
 use Rattle.common.proofs.ListsLaws.{length_over}
-use Rattle.common.specs.Lists.{overPlaces}
+use Rattle.common.specs.Lists.{over_places}
 
 -- data that is stored after what is held
 module _ (m j xs : List ℕ) (base : ℕ) (fits : base + length j + length xs ≤ length m) (held : take (length j) (drop base m) ≡ j) where
-  pub holds_more : take (length j + length xs) (drop base (overPlaces m (base + length j) xs)) ≡ j ++ xs
-  unfolding overPlaces
+  pub holds_more : take (length j + length xs) (drop base (over_places m (base + length j) xs)) ≡ j ++ xs
+  unfolding over_places
   holds_more =
       rw (take-add base (length j) m, held, append_assoc, append_assoc, drop_at (take base m) (j ++ (xs ++ drop (base + length j + length xs) m)) base (length-take-le base m (omega arith)), take-append-add, take-append_seam)
 
 -- what stands before the place that is written stays
-front-stays : (m xs : List ℕ) (n at : ℕ) → n ≤ at → at ≤ length m → take n (overPlaces m at xs) ≡ take n m
-unfolding overPlaces
-front-stays m xs n at h k =
+front_stays : (m xs : List ℕ) (n at : ℕ) → n ≤ at → at ≤ length m → take n (over_places m at xs) ≡ take n m
+unfolding over_places
+front_stays m xs n at h k =
     let l : length (take at m) ≡ at = length-take-le at m k in
     rw append_assoc (take-append-le n (take at m) (xs ++ drop (at + length xs) m) (omega arith) ∙ take-take n at m h)
 
@@ -27,7 +27,7 @@ front-stays m xs n at h k =
 part_end : (base n : ℕ) (l : List ℕ) → base ≤ length l → take n (drop base l) ≡ drop base (take (base + n) l)
 part_end base n l h = sym (ap (drop base) (take-add base n l) ∙ drop_at (take base l) (take n (drop base l)) base (length-take-le base l h))
 
-pub before-stays : (m xs : List ℕ) (base n at : ℕ) → base + n ≤ at → at + length xs ≤ length m → take n (drop base (overPlaces m at xs)) ≡ take n (drop base m)
-before-stays m xs base n at h k =
-    part_end base n (overPlaces m at xs) (omega (arith, length_over m xs at k)) ∙ ap (drop base) (front-stays m xs (base + n) at h (omega arith))
+pub before_stays : (m xs : List ℕ) (base n at : ℕ) → base + n ≤ at → at + length xs ≤ length m → take n (drop base (over_places m at xs)) ≡ take n (drop base m)
+before_stays m xs base n at h k =
+    part_end base n (over_places m at xs) (omega (arith, length_over m xs at k)) ∙ ap (drop base) (front_stays m xs (base + n) at h (omega arith))
     ∙ sym (part_end base n m (omega arith))

@@ -6,57 +6,57 @@ use Prim.Native.Nat.{ℕ}
 use lib.ListN.{length}
 use Rattle.session.specs.Tables.{since}
 use Rattle.session.specs.Reading.{Arguments, Reading, begins, read, reading}
-use Rattle.session.specs.Promise.{Call, argumentsOf, Host, hostAfter, runCalls, LentNow, Lent, History, startHost, finish, Result, result_of, results, Marked, allCalls, keptCalls, keptResults, PreviewsOut, ExtendedBy}
+use Rattle.session.specs.Promise.{Call, arguments_of, Host, host_after, run_calls, LentNow, Lent, History, start_host, finish, Result, result_of, results, Marked, all_calls, kept_calls, kept_results, PreviewsOut, ExtendedBy}
 use Rattle.session.specs.declared.state.Session.{Session}
-use Rattle.session.proofs.PreviewLaws.{preview-reads}
+use Rattle.session.proofs.PreviewLaws.{preview_reads}
 
 -- ---- one call more
 
-run_more : (cs : List Call) (h : Host) (c : Call) → runCalls h (cs ++ (c ∷ [])) ≡ hostAfter (runCalls h cs) c
+run_more : (cs : List Call) (h : Host) (c : Call) → run_calls h (cs ++ (c ∷ [])) ≡ host_after (run_calls h cs) c
 run_more [] h c = refl
-run_more (x ∷ cs) h c = run_more cs (hostAfter h x) c
+run_more (x ∷ cs) h c = run_more cs (host_after h x) c
 
-pub lent-more : (cs : List Call) (h : Host) (c : Call) → Lent h cs → LentNow (runCalls h cs) c → Lent h (cs ++ (c ∷ []))
-lent-more [] h c l k = (k, tt)
-lent-more (x ∷ cs) h c l k = (l.0, lent-more cs (hostAfter h x) c l.1 k)
+pub lent_more : (cs : List Call) (h : Host) (c : Call) → Lent h cs → LentNow (run_calls h cs) c → Lent h (cs ++ (c ∷ []))
+lent_more [] h c l k = (k, tt)
+lent_more (x ∷ cs) h c l k = (l.0, lent_more cs (host_after h x) c l.1 k)
 
 abbrev pub with_call : (h : History) (c : Call) → LentNow (finish h) c → History
-with_call h c l = record { opening = h.opening; good = h.good; object = h.object; calls = h.calls ++ (c ∷ []); lent = lent-more h.calls (startHost h) c h.lent l }
+with_call h c l = record { opening = h.opening; good = h.good; object = h.object; calls = h.calls ++ (c ∷ []); lent = lent_more h.calls (start_host h) c h.lent l }
 
-pub call-finish : (h : History) (c : Call) (l : LentNow (finish h) c) → finish (with_call h c l) ≡ hostAfter (finish h) c
-call-finish h c l = run_more h.calls (startHost h) c
+pub call_finish : (h : History) (c : Call) (l : LentNow (finish h) c) → finish (with_call h c l) ≡ host_after (finish h) c
+call_finish h c l = run_more h.calls (start_host h) c
 
-pub extended : (h : History) (c : Call) (s : Session) (object : List ℕ) → LentNow (finish h) c → hostAfter (finish h) c ≡ record { session = s; object = object } → ExtendedBy h c s object
-extended h c s object l e = record { history = with_call h c l; opening = refl; buffer = refl; calls = refl; host = call-finish h c l ∙ e }
+pub extended : (h : History) (c : Call) (s : Session) (object : List ℕ) → LentNow (finish h) c → host_after (finish h) c ≡ record { session = s; object = object } → ExtendedBy h c s object
+extended h c s object l e = record { history = with_call h c l; opening = refl; buffer = refl; calls = refl; host = call_finish h c l ∙ e }
 
 -- ---- previews taken out
 
 -- two lists that a host makes, the first with previews marked, and what is read of both
 record Unaltered (r : Reading) (h : Host) (ms : List Marked) : Type 0 where
-  same-host : runCalls h (allCalls ms) ≡ runCalls h (keptCalls ms)
-  same-results : keptResults h ms ≡ results h (keptCalls ms)
-  same-reading : reading r (map argumentsOf (allCalls ms)) ≡ reading r (map argumentsOf (keptCalls ms))
-  lent-too : Lent h (allCalls ms) → Lent h (keptCalls ms)
+  same_host : run_calls h (all_calls ms) ≡ run_calls h (kept_calls ms)
+  same_results : kept_results h ms ≡ results h (kept_calls ms)
+  same_reading : reading r (map arguments_of (all_calls ms)) ≡ reading r (map arguments_of (kept_calls ms))
+  lent_too : Lent h (all_calls ms) → Lent h (kept_calls ms)
 
 unaltered : (ms : List Marked) (r : Reading) (h : Host) → Unaltered r h ms
-unaltered [] r h = record { same-host = refl; same-results = refl; same-reading = refl; lent-too = λ l. l }
+unaltered [] r h = record { same_host = refl; same_results = refl; same_reading = refl; lent_too = λ l. l }
 unaltered (Marked.kept c ∷ ms) r h =
-    let a = unaltered ms (read r (argumentsOf c)) (hostAfter h c) in
-    record { same-host = a.same-host; same-results = ap (λ (l : List Result). result_of h c ∷ l) a.same-results; same-reading = a.same-reading; lent-too = λ l. (l.0, a.lent-too l.1) }
-unaltered (Marked.removed kind yesNo fascn out ∷ ms) r h =
+    let a = unaltered ms (read r (arguments_of c)) (host_after h c) in
+    record { same_host = a.same_host; same_results = ap (λ (l : List Result). result_of h c ∷ l) a.same_results; same_reading = a.same_reading; lent_too = λ l. (l.0, a.lent_too l.1) }
+unaltered (Marked.removed kind yes_no fascn out ∷ ms) r h =
     let a = unaltered ms r h in
-    let stays : read r (Arguments.preview kind yesNo fascn (length out)) ≡ r = preview-reads r kind yesNo fascn (length out) in
-    record { same-host = a.same-host; same-results = a.same-results; same-reading = ap (λ (q : Reading). reading q (map argumentsOf (allCalls ms))) stays ∙ a.same-reading; lent-too = λ l. a.lent-too l.1 }
+    let stays : read r (Arguments.preview kind yes_no fascn (length out)) ≡ r = preview_reads r kind yes_no fascn (length out) in
+    record { same_host = a.same_host; same_results = a.same_results; same_reading = ap (λ (q : Reading). reading q (map arguments_of (all_calls ms))) stays ∙ a.same_reading; lent_too = λ l. a.lent_too l.1 }
 
-pub previews-out : (h : History) (ms : List Marked) → allCalls ms ≡ h.calls → PreviewsOut h ms
-previews-out h ms e =
-    let a = unaltered ms (begins since h.opening) (startHost h) in
+pub previews_out : (h : History) (ms : List Marked) → all_calls ms ≡ h.calls → PreviewsOut h ms
+previews_out h ms e =
+    let a = unaltered ms (begins since h.opening) (start_host h) in
     record {
-      history = record { opening = h.opening; good = h.good; object = h.object; calls = keptCalls ms; lent = a.lent-too (subst (Lent (startHost h)) (sym e) h.lent) };
+      history = record { opening = h.opening; good = h.good; object = h.object; calls = kept_calls ms; lent = a.lent_too (subst (Lent (start_host h)) (sym e) h.lent) };
       opening = refl;
       buffer = refl;
       calls = refl;
-      results = a.same-results;
-      host = ap (runCalls (startHost h)) (sym e) ∙ a.same-host;
-      reading = ap (λ (cs : List Call). reading (begins since h.opening) (map argumentsOf cs)) (sym e) ∙ a.same-reading;
+      results = a.same_results;
+      host = ap (run_calls (start_host h)) (sym e) ∙ a.same_host;
+      reading = ap (λ (cs : List Call). reading (begins since h.opening) (map arguments_of cs)) (sym e) ∙ a.same_reading;
     }

@@ -4,7 +4,7 @@ use mathlib.Core.Path.{◌≡◌, refl, sym, ap, ◌∙◌}
 use mathlib.Core.List.{List, [], ◌∷◌}
 use Prim.Native.Nat.{ℕ}
 use lib.ListN.{get_or}
-use Rattle.session.specs.Operation.{replyNumber}
+use Rattle.session.specs.Operation.{reply_number}
 use Rattle.session.specs.declared.state.Reply.{Reply}
 use Rattle.session.specs.declared.state.Reply.TheVariants as replies
 
@@ -14,7 +14,7 @@ cases =
     replies.Accepted ∷ replies.WrongMode ∷ replies.UnrealDate ∷ replies.WrongAid ∷ replies.OutOfRange ∷ replies.OutOfTurn ∷ replies.ShortBuffer ∷ replies.WrongObjectBuffer ∷ replies.WrongAnswerLength ∷ replies.NotAllRead ∷ replies.UnknownKind ∷ replies.UnknownVerdict ∷ replies.WrongFascn ∷ replies.NotNeeded ∷ replies.AlreadyGiven ∷ []
 
 -- a case stands in the place of its number
-back : (r : Reply) → get_or cases (replyNumber r) replies.Accepted ≡ r
+back : (r : Reply) → get_or cases (reply_number r) replies.Accepted ≡ r
 back replies.Accepted = refl
 back replies.WrongMode = refl
 back replies.UnrealDate = refl
@@ -31,5 +31,5 @@ back replies.WrongFascn = refl
 back replies.NotNeeded = refl
 back replies.AlreadyGiven = refl
 
-pub reply-is : (a b : Reply) → replyNumber a ≡ replyNumber b → a ≡ b
-reply-is a b e = sym (back a) ∙ ap (λ (k : ℕ). get_or cases k replies.Accepted) e ∙ back b
+pub reply_is : (a b : Reply) → reply_number a ≡ reply_number b → a ≡ b
+reply_is a b e = sym (back a) ∙ ap (λ (k : ℕ). get_or cases k replies.Accepted) e ∙ back b

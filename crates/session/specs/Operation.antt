@@ -1,17 +1,17 @@
 -- What each call on a session gives, and what it leaves in the buffers that it is lent: the contracts cite these, for every session and every buffer.
 -- Assumes nothing.
 use Rattle.std.specs.Prelude.{true, false, cond, ◌||◌, List, [], ◌∷◌, ℕ, ◌+◌, eqb, length, get_or, take, drop, replicate}
-use Rattle.common.specs.Lists.{overFront, overPlaces}
-use Rattle.common.specs.Refusal.{refusalOf}
-use Rattle.card.specs.Object.{biometricTag, empty, mostFields, rows_of, objectOf, partIn, bytes_at, fieldPart}
-use Rattle.card.specs.Fascn.{fascnBytes}
-use Rattle.card.specs.Command.{aidMost, statusOf}
+use Rattle.common.specs.Lists.{over_front, over_places}
+use Rattle.common.specs.Refusal.{refusal_of}
+use Rattle.card.specs.Object.{biometric_tag, empty, most_fields, rows_of, object_of, part_in, bytes_at, field_part}
+use Rattle.card.specs.Fascn.{fascn_bytes}
+use Rattle.card.specs.Command.{aid_most, status_of}
 use Rattle.card.specs.declared.object.Part.{Part}
 use Rattle.card.specs.declared.command.Status.{Status}
 use Rattle.card.specs.declared.command.Status.TheVariants.{Done, More, Again, Other}
-use Rattle.session.specs.Tables.{since, checks, checkServed, with_outcome, neededOutcomes, verdictOutcome, causeOf, standingOf, kindAt, stepAfter, base_of, capacity, stepOfTag, NextCommand, commandBytes, data_of, statusBytes, ruleCause, statusShown, fascnRead, expiryRead, judgedOutcomes, joinedCause, head_of, stampLayout}
-use Rattle.session.specs.Condition.{openConditions, commandConditions, answerConditions, verdictConditions, fieldRefused, stampConditions, previewConditions}
-use Rattle.session.specs.Ranges.{outOfRange}
+use Rattle.session.specs.Tables.{since, checks, check_served, with_outcome, needed_outcomes, verdict_outcome, cause_of, standing_of, kind_at, step_after, base_of, capacity, step_of_tag, NextCommand, command_bytes, data_of, status_bytes, rule_cause, status_shown, fascn_read, expiry_read, judged_outcomes, joined_cause, head_of, stamp_layout}
+use Rattle.session.specs.Condition.{open_conditions, command_conditions, answer_conditions, verdict_conditions, field_refused, stamp_conditions, preview_conditions}
+use Rattle.session.specs.Ranges.{out_of_range}
 use Rattle.session.specs.declared.state.SessionProgress.{SessionProgress}
 use Rattle.session.specs.declared.state.Card.{Card}
 use Rattle.session.specs.declared.state.Session.{Session}
@@ -22,269 +22,269 @@ use Rattle.session.specs.declared.state.Reply.TheVariants as replies
 use Rattle.session.specs.declared.state.Answered.{Answered}
 use Rattle.session.specs.declared.state.Commanded.{Commanded}
 
--- ---- the answers of the code: document 01's number of each case; no two have one number (`reply-is`, proofs/ReplyLaws.antt)
+-- ---- the answers of the code: document 01's number of each case; no two have one number (`reply_is`, proofs/ReplyLaws.antt)
 
-abbrev pub replyNumber : Reply → ℕ
-replyNumber replies.Accepted = 0
-replyNumber replies.WrongMode = 1
-replyNumber replies.UnrealDate = 2
-replyNumber replies.WrongAid = 3
-replyNumber replies.OutOfRange = 4
-replyNumber replies.OutOfTurn = 5
-replyNumber replies.ShortBuffer = 6
-replyNumber replies.WrongObjectBuffer = 7
-replyNumber replies.WrongAnswerLength = 8
-replyNumber replies.NotAllRead = 9
-replyNumber replies.UnknownKind = 10
-replyNumber replies.UnknownVerdict = 11
-replyNumber replies.WrongFascn = 12
-replyNumber replies.NotNeeded = 13
-replyNumber replies.AlreadyGiven = 14
+abbrev pub reply_number : Reply → ℕ
+reply_number replies.Accepted = 0
+reply_number replies.WrongMode = 1
+reply_number replies.UnrealDate = 2
+reply_number replies.WrongAid = 3
+reply_number replies.OutOfRange = 4
+reply_number replies.OutOfTurn = 5
+reply_number replies.ShortBuffer = 6
+reply_number replies.WrongObjectBuffer = 7
+reply_number replies.WrongAnswerLength = 8
+reply_number replies.NotAllRead = 9
+reply_number replies.UnknownKind = 10
+reply_number replies.UnknownVerdict = 11
+reply_number replies.WrongFascn = 12
+reply_number replies.NotNeeded = 13
+reply_number replies.AlreadyGiven = 14
 
 -- The number and the session handed back; of a command call also the count of bytes.
 abbrev pub given : Answered → ℕ × Session
-given r = (replyNumber r.reply, r.session)
+given r = (reply_number r.reply, r.session)
 
-abbrev pub commandGiven : Commanded → ℕ × ℕ × Session
-commandGiven r = (replyNumber r.reply, r.count, r.session)
+abbrev pub command_given : Commanded → ℕ × ℕ × Session
+command_given r = (reply_number r.reply, r.count, r.session)
 
-abbrev pub withSessionProgress : Session → SessionProgress → Session
-withSessionProgress s p = record { opening = s.opening; progress = p; outcomes = s.outcomes; card = s.card }
+abbrev pub with_session_progress : Session → SessionProgress → Session
+with_session_progress s p = record { opening = s.opening; progress = p; outcomes = s.outcomes; card = s.card }
 
 -- ---- open
 
 -- A step begins.
-abbrev pub progressAtStep : ℕ → SessionProgress
-progressAtStep step = record { step = step; filled = 0; outstanding = false; next = Initial; cause = 0; sw1 = 0; sw2 = 0 }
+abbrev pub progress_at_step : ℕ → SessionProgress
+progress_at_step step = record { step = step; filled = 0; outstanding = false; next = Initial; cause = 0; sw1 = 0; sw2 = 0 }
 
-abbrev pub noParts : List Part
-noParts = replicate mostFields empty
+abbrev pub no_parts : List Part
+no_parts = replicate most_fields empty
 
-abbrev pub noCard : Card
-noCard = record { fascn = replicate fascnBytes 0; expiry = 0; step1 = noParts; step2 = empty }
+abbrev pub no_card : Card
+no_card = record { fascn = replicate fascn_bytes 0; expiry = 0; step1 = no_parts; step2 = empty }
 
 -- "a dead session, all zeros"
 abbrev pub dead : Session
 dead =
-    record { opening = record { mode = 0; date = 0; aid = replicate aidMost 0; aid_len = 0 }; progress = progressAtStep 0; outcomes = replicate checks 0; card = noCard }
+    record { opening = record { mode = 0; date = 0; aid = replicate aid_most 0; aid_len = 0 }; progress = progress_at_step 0; outcomes = replicate checks 0; card = no_card }
 
 -- The session that an accepted opening gives; the AID is kept with zeros after it.
 unfoldable pub opened : ℕ → ℕ → List ℕ → Session
 opened mode date aid =
     record {
-      opening = record { mode = mode; date = date; aid = overFront aid (replicate aidMost 0); aid_len = length aid };
-      progress = progressAtStep 0;
-      outcomes = neededOutcomes since mode;
-      card = noCard;
+      opening = record { mode = mode; date = date; aid = over_front aid (replicate aid_most 0); aid_len = length aid };
+      progress = progress_at_step 0;
+      outcomes = needed_outcomes since mode;
+      card = no_card;
     }
 
-unfoldable pub openRefusal : ℕ → ℕ → List ℕ → ℕ
-openRefusal mode date aid = refusalOf (openConditions since mode date aid)
+unfoldable pub open_refusal : ℕ → ℕ → List ℕ → ℕ
+open_refusal mode date aid = refusal_of (open_conditions since mode date aid)
 
-unfoldable pub openOf : ℕ → ℕ → List ℕ → ℕ × Session
-openOf mode date aid = cond (eqb (openRefusal mode date aid) 0) (0, opened mode date aid) (openRefusal mode date aid, dead)
+unfoldable pub open_of : ℕ → ℕ → List ℕ → ℕ × Session
+open_of mode date aid = cond (eqb (open_refusal mode date aid) 0) (0, opened mode date aid) (open_refusal mode date aid, dead)
 
 -- ---- command
 
 -- The command that is next, as the code has it. Of GET RESPONSE sent again the byte that was replaced is not kept: no call shows it.
 abbrev pub next_of : Next → NextCommand
-next_of Initial = NextCommand.ofStep
-next_of (GetResponse second) = NextCommand.getResponse second
-next_of (InitialAgain last) = NextCommand.again NextCommand.ofStep last
-next_of (GetResponseAgain last) = NextCommand.again (NextCommand.getResponse last) last
+next_of Initial = NextCommand.of_step
+next_of (GetResponse second) = NextCommand.get_response second
+next_of (InitialAgain last) = NextCommand.again NextCommand.of_step last
+next_of (GetResponseAgain last) = NextCommand.again (NextCommand.get_response last) last
 
 -- The same command, to be sent again with another last byte. The last two cases do not arise: a 6C to a command that was sent again is cause 16.
-abbrev pub sentAgain : Next → ℕ → Next
-sentAgain Initial last = InitialAgain last
-sentAgain (GetResponse second) last = GetResponseAgain last
-sentAgain (InitialAgain former) last = InitialAgain last
-sentAgain (GetResponseAgain former) last = GetResponseAgain last
+abbrev pub sent_again : Next → ℕ → Next
+sent_again Initial last = InitialAgain last
+sent_again (GetResponse second) last = GetResponseAgain last
+sent_again (InitialAgain former) last = InitialAgain last
+sent_again (GetResponseAgain former) last = GetResponseAgain last
 
 -- The bytes of a command in a session, of the step's own, and of the next one.
-abbrev pub commandBytesIn : Session → NextCommand → List ℕ
-commandBytesIn s command = commandBytes s.opening.mode (take s.opening.aid_len s.opening.aid) s.progress.step command
+abbrev pub command_bytes_in : Session → NextCommand → List ℕ
+command_bytes_in s command = command_bytes s.opening.mode (take s.opening.aid_len s.opening.aid) s.progress.step command
 
-unfoldable pub initialIn : Session → List ℕ
-initialIn s = commandBytesIn s NextCommand.ofStep
+unfoldable pub initial_in : Session → List ℕ
+initial_in s = command_bytes_in s NextCommand.of_step
 
-unfoldable pub commandIn : Session → List ℕ
-commandIn s = commandBytesIn s (next_of s.progress.next)
+unfoldable pub command_in : Session → List ℕ
+command_in s = command_bytes_in s (next_of s.progress.next)
 
-unfoldable pub commandRefusal : Session → ℕ → ℕ
-commandRefusal s room =
-    refusalOf ((4, outOfRange s) ∷ commandConditions s.progress.step s.progress.cause s.progress.outstanding room (length (commandIn s)))
+unfoldable pub command_refusal : Session → ℕ → ℕ
+command_refusal s room =
+    refusal_of ((4, out_of_range s) ∷ command_conditions s.progress.step s.progress.cause s.progress.outstanding room (length (command_in s)))
 
 -- The next command is outstanding.
-abbrev pub progressSending : SessionProgress → SessionProgress
-progressSending p =
+abbrev pub progress_sending : SessionProgress → SessionProgress
+progress_sending p =
     record { step = p.step; filled = p.filled; outstanding = true; next = p.next; cause = p.cause; sw1 = p.sw1; sw2 = p.sw2 }
 
-unfoldable pub commandOf : Session → ℕ → ℕ × ℕ × Session
-commandOf s room =
-    cond (eqb (commandRefusal s room) 0) (0, length (commandIn s), withSessionProgress s (progressSending s.progress)) (commandRefusal s room, 0, s)
+unfoldable pub command_of : Session → ℕ → ℕ × ℕ × Session
+command_of s room =
+    cond (eqb (command_refusal s room) 0) (0, length (command_in s), with_session_progress s (progress_sending s.progress)) (command_refusal s room, 0, s)
 
 -- The lent buffer then.
-unfoldable pub commandBuffer : Session → List ℕ → List ℕ
-commandBuffer s out = cond (eqb (commandRefusal s (length out)) 0) (overFront (commandIn s) out) out
+unfoldable pub command_buffer : Session → List ℕ → List ℕ
+command_buffer s out = cond (eqb (command_refusal s (length out)) 0) (over_front (command_in s) out) out
 
 -- ---- answer
 
-unfoldable pub answerRefusal : Session → ℕ → ℕ → ℕ
-answerRefusal s size n = refusalOf ((4, outOfRange s) ∷ answerConditions since s.progress.outstanding size n)
+unfoldable pub answer_refusal : Session → ℕ → ℕ → ℕ
+answer_refusal s size n = refusal_of ((4, out_of_range s) ∷ answer_conditions since s.progress.outstanding size n)
 
 -- A cause ends the reading, with so many bytes of the step's data in the object buffer.
-abbrev pub progressStopped : SessionProgress → ℕ → ℕ → ℕ → ℕ → SessionProgress
-progressStopped p filled cause sw1 sw2 =
+abbrev pub progress_stopped : SessionProgress → ℕ → ℕ → ℕ → ℕ → SessionProgress
+progress_stopped p filled cause sw1 sw2 =
     record { step = p.step; filled = filled; outstanding = false; next = p.next; cause = cause; sw1 = sw1; sw2 = sw2 }
 
 -- The step goes on, n bytes being appended, with this command next.
-abbrev pub progressContinued : SessionProgress → ℕ → Next → SessionProgress
-progressContinued p n next = record { step = p.step; filled = p.filled + n; outstanding = false; next = next; cause = 0; sw1 = 0; sw2 = 0 }
+abbrev pub progress_continued : SessionProgress → ℕ → Next → SessionProgress
+progress_continued p n next = record { step = p.step; filled = p.filled + n; outstanding = false; next = next; cause = 0; sw1 = 0; sw2 = 0 }
 
 -- Step 1's good end sets checks 3 and 4; FASC-N, expiry and the places of the fields are kept.
-abbrev pub step1EndSession : Session → List ℕ → List ℕ → Session
-step1EndSession s joined cancelled =
+abbrev pub step1_end_session : Session → List ℕ → List ℕ → Session
+step1_end_session s joined cancelled =
     let mode = s.opening.mode in
     record {
       opening = s.opening;
-      progress = progressAtStep (stepAfter mode 1);
-      outcomes = judgedOutcomes mode s.opening.date s.outcomes joined cancelled;
-      card = record { fascn = fascnRead mode joined; expiry = expiryRead mode joined; step1 = (objectOf (kindAt mode 1) joined).1; step2 = s.card.step2 };
+      progress = progress_at_step (step_after mode 1);
+      outcomes = judged_outcomes mode s.opening.date s.outcomes joined cancelled;
+      card = record { fascn = fascn_read mode joined; expiry = expiry_read mode joined; step1 = (object_of (kind_at mode 1) joined).1; step2 = s.card.step2 };
     }
 
 -- Step 2's good end: the place of the field BC is kept.
-abbrev pub step2EndSession : Session → Part → Session
-step2EndSession s part =
+abbrev pub step2_end_session : Session → Part → Session
+step2_end_session s part =
     record {
       opening = s.opening;
-      progress = progressAtStep 3;
+      progress = progress_at_step 3;
       outcomes = s.outcomes;
       card = record { fascn = s.card.fascn; expiry = s.card.expiry; step1 = s.card.step1; step2 = part };
     }
 
 -- The good end of a step, by its joined data.
-unfoldable pub goodEndSession : Session → List ℕ → List ℕ → Session
-goodEndSession s joined cancelled =
+unfoldable pub good_end_session : Session → List ℕ → List ℕ → Session
+good_end_session s joined cancelled =
     let mode = s.opening.mode in
-    cond (eqb s.progress.step 0) (withSessionProgress s (progressAtStep (stepAfter mode 0)))
-    (cond (eqb s.progress.step 1) (step1EndSession s joined cancelled) (step2EndSession s (fieldPart (kindAt mode s.progress.step) biometricTag joined)))
+    cond (eqb s.progress.step 0) (with_session_progress s (progress_at_step (step_after mode 0)))
+    (cond (eqb s.progress.step 1) (step1_end_session s joined cancelled) (step2_end_session s (field_part (kind_at mode s.progress.step) biometric_tag joined)))
 
 -- The step's joined data is judged.
-unfoldable pub judgedSession : Session → List ℕ → List ℕ → Session
-judgedSession s joined cancelled =
-    let k = joinedCause s.opening.mode s.progress.step joined in
-    cond (eqb k 0) (goodEndSession s joined cancelled) (withSessionProgress s (progressStopped s.progress (length joined) k 0 0))
+unfoldable pub judged_session : Session → List ℕ → List ℕ → Session
+judged_session s joined cancelled =
+    let k = joined_cause s.opening.mode s.progress.step joined in
+    cond (eqb k 0) (good_end_session s joined cancelled) (with_session_progress s (progress_stopped s.progress (length joined) k 0 0))
 
 -- The cause of rules 1 to 3.
-abbrev pub causeIn : Session → Status → ℕ → ℕ
-causeIn s status n =
-    ruleCause status (next_of s.progress.next) n s.progress.filled (capacity s.opening.mode s.progress.step)
+abbrev pub cause_in : Session → Status → ℕ → ℕ
+cause_in s status n =
+    rule_cause status (next_of s.progress.next) n s.progress.filled (capacity s.opening.mode s.progress.step)
 
 -- Where the data of the next answer is stored in the object buffer, and the step's joined data once n bytes are.
 abbrev pub place_of : SessionProgress → ℕ
 place_of p = base_of p.step + p.filled
 
-unfoldable pub joinedIn : SessionProgress → List ℕ → ℕ → List ℕ
-joinedIn p object n = take (p.filled + n) (drop (base_of p.step) object)
+unfoldable pub joined_in : SessionProgress → List ℕ → ℕ → List ℕ
+joined_in p object n = take (p.filled + n) (drop (base_of p.step) object)
 
 -- By the status of an answer whose data, n bytes, is appended.
-abbrev pub appendedSession : Status → Session → List ℕ → ℕ → List ℕ → Session
-appendedSession (More second) s joined n cancelled = withSessionProgress s (progressContinued s.progress n (GetResponse second))
-appendedSession (Again last) s joined n cancelled = withSessionProgress s (progressContinued s.progress n (sentAgain s.progress.next last))
-appendedSession Done s joined n cancelled = judgedSession s joined cancelled
-appendedSession Other s joined n cancelled = judgedSession s joined cancelled
+abbrev pub appended_session : Status → Session → List ℕ → ℕ → List ℕ → Session
+appended_session (More second) s joined n cancelled = with_session_progress s (progress_continued s.progress n (GetResponse second))
+appended_session (Again last) s joined n cancelled = with_session_progress s (progress_continued s.progress n (sent_again s.progress.next last))
+appended_session Done s joined n cancelled = judged_session s joined cancelled
+appended_session Other s joined n cancelled = judged_session s joined cancelled
 
 -- An answer that is accepted.
-unfoldable pub answerTakenSession : Session → List ℕ → List ℕ → List ℕ → List ℕ → Session
-answerTakenSession s object bytes status cancelled =
-    let k = causeIn s (statusOf status) (length bytes) in
+unfoldable pub answer_taken_session : Session → List ℕ → List ℕ → List ℕ → List ℕ → Session
+answer_taken_session s object bytes status cancelled =
+    let k = cause_in s (status_of status) (length bytes) in
     cond (eqb k 0)
-    (appendedSession (statusOf status) s (joinedIn s.progress (overPlaces object (place_of s.progress) bytes) (length bytes)) (length bytes) cancelled)
-    (withSessionProgress s (progressStopped s.progress s.progress.filled k (statusShown k (get_or status 0 0)) (statusShown k (get_or status 1 0))))
+    (appended_session (status_of status) s (joined_in s.progress (over_places object (place_of s.progress) bytes) (length bytes)) (length bytes) cancelled)
+    (with_session_progress s (progress_stopped s.progress s.progress.filled k (status_shown k (get_or status 0 0)) (status_shown k (get_or status 1 0))))
 
-unfoldable pub answerTakenBuffer : Session → List ℕ → List ℕ → List ℕ → List ℕ
-answerTakenBuffer s object bytes status =
-    cond (eqb (causeIn s (statusOf status) (length bytes)) 0) (overPlaces object (place_of s.progress) bytes) object
+unfoldable pub answer_taken_buffer : Session → List ℕ → List ℕ → List ℕ → List ℕ
+answer_taken_buffer s object bytes status =
+    cond (eqb (cause_in s (status_of status) (length bytes)) 0) (over_places object (place_of s.progress) bytes) object
 
 unfoldable pub answer_of : Session → List ℕ → List ℕ → List ℕ → ℕ × Session
 answer_of s object bytes cancelled =
-    let k = answerRefusal s (length object) (length bytes) in
-    cond (eqb k 0) (0, answerTakenSession s object (data_of bytes) (statusBytes bytes) cancelled) (k, s)
+    let k = answer_refusal s (length object) (length bytes) in
+    cond (eqb k 0) (0, answer_taken_session s object (data_of bytes) (status_bytes bytes) cancelled) (k, s)
 
 -- The object buffer then.
-unfoldable pub answerBuffer : Session → List ℕ → List ℕ → List ℕ
-answerBuffer s object bytes =
-    cond (eqb (answerRefusal s (length object) (length bytes)) 0) (answerTakenBuffer s object (data_of bytes) (statusBytes bytes)) object
+unfoldable pub answer_buffer : Session → List ℕ → List ℕ → List ℕ
+answer_buffer s object bytes =
+    cond (eqb (answer_refusal s (length object) (length bytes)) 0) (answer_taken_buffer s object (data_of bytes) (status_bytes bytes)) object
 
 -- ---- verdict
 
-unfoldable pub verdictRefusal : Session → ℕ → ℕ → List ℕ → ℕ
-verdictRefusal s kind yesNo fascn =
-    refusalOf ((4, outOfRange s) ∷ verdictConditions since s.opening.mode s.progress.step s.outcomes kind yesNo fascn)
+unfoldable pub verdict_refusal : Session → ℕ → ℕ → List ℕ → ℕ
+verdict_refusal s kind yes_no fascn =
+    refusal_of ((4, out_of_range s) ∷ verdict_conditions since s.opening.mode s.progress.step s.outcomes kind yes_no fascn)
 
-unfoldable pub verdictTakenSession : Session → ℕ → ℕ → List ℕ → Session
-verdictTakenSession s kind yesNo fascn =
+unfoldable pub verdict_taken_session : Session → ℕ → ℕ → List ℕ → Session
+verdict_taken_session s kind yes_no fascn =
     record {
       opening = s.opening;
       progress = s.progress;
-      outcomes = with_outcome s.outcomes (checkServed kind) (verdictOutcome s.card.fascn yesNo fascn);
+      outcomes = with_outcome s.outcomes (check_served kind) (verdict_outcome s.card.fascn yes_no fascn);
       card = s.card;
     }
 
-unfoldable pub verdictOf : Session → ℕ → ℕ → List ℕ → ℕ × Session
-verdictOf s kind yesNo fascn =
-    let k = verdictRefusal s kind yesNo fascn in
-    cond (eqb k 0) (0, verdictTakenSession s kind yesNo fascn) (k, s)
+unfoldable pub verdict_of : Session → ℕ → ℕ → List ℕ → ℕ × Session
+verdict_of s kind yes_no fascn =
+    let k = verdict_refusal s kind yes_no fascn in
+    cond (eqb k 0) (0, verdict_taken_session s kind yes_no fascn) (k, s)
 
 -- ---- field
 
 -- The part of the field with a tag of the step's object, in the step's data: of step 2's object the field BC is the only one that can be asked for.
-abbrev pub partFor : Session → ℕ → ℕ → Part
-partFor s step tag = cond (eqb step 2) s.card.step2 (partIn (rows_of (kindAt s.opening.mode 1)) s.card.step1 tag)
+abbrev pub part_for : Session → ℕ → ℕ → Part
+part_for s step tag = cond (eqb step 2) s.card.step2 (part_in (rows_of (kind_at s.opening.mode 1)) s.card.step1 tag)
 
--- Where the value lies in an object buffer of so many bytes, or the empty part. Its bytes are `field_of` (`place-value`, proofs/CallLaws.antt).
-unfoldable pub fieldPlace : Session → ℕ → ℕ → Part
-fieldPlace s size tag =
-    let step = stepOfTag tag in
-    let part = partFor s step tag in
-    cond (outOfRange s || fieldRefused since s.opening.mode s.progress.step size tag) empty (record { start = base_of step + part.start; len = part.len })
+-- Where the value lies in an object buffer of so many bytes, or the empty part. Its bytes are `field_of` (`place_value`, proofs/CallLaws.antt).
+unfoldable pub field_place : Session → ℕ → ℕ → Part
+field_place s size tag =
+    let step = step_of_tag tag in
+    let part = part_for s step tag in
+    cond (out_of_range s || field_refused since s.opening.mode s.progress.step size tag) empty (record { start = base_of step + part.start; len = part.len })
 
 -- The value as a part of the object buffer, or the empty part.
 unfoldable pub field_of : Session → List ℕ → ℕ → List ℕ
 field_of s object tag =
-    let step = stepOfTag tag in
-    cond (outOfRange s || fieldRefused since s.opening.mode s.progress.step (length object) tag) [] (bytes_at (drop (base_of step) object) (partFor s step tag))
+    let step = step_of_tag tag in
+    cond (out_of_range s || field_refused since s.opening.mode s.progress.step (length object) tag) [] (bytes_at (drop (base_of step) object) (part_for s step tag))
 
 -- ---- stamp
 
-unfoldable pub stampRefusal : Session → ℕ → ℕ
-stampRefusal s room = refusalOf ((4, outOfRange s) ∷ stampConditions since room)
+unfoldable pub stamp_refusal : Session → ℕ → ℕ
+stamp_refusal s room = refusal_of ((4, out_of_range s) ∷ stamp_conditions since room)
 
 -- Mode, standing, cause, status word and step.
-unfoldable pub stampHead : Session → List ℕ
-stampHead s =
+unfoldable pub stamp_head : Session → List ℕ
+stamp_head s =
     let p = s.progress in
-    let cause = causeOf p.cause s.outcomes in
-    head_of s.opening.mode (standingOf s.opening.mode p.step cause s.outcomes) cause (statusShown p.cause p.sw1) (statusShown p.cause p.sw2) p.step
+    let cause = cause_of p.cause s.outcomes in
+    head_of s.opening.mode (standing_of s.opening.mode p.step cause s.outcomes) cause (status_shown p.cause p.sw1) (status_shown p.cause p.sw2) p.step
 
-unfoldable pub stampIn : Session → List ℕ
-stampIn s = stampLayout (stampHead s) s.outcomes s.opening.date s.card.fascn s.card.expiry
+unfoldable pub stamp_in : Session → List ℕ
+stamp_in s = stamp_layout (stamp_head s) s.outcomes s.opening.date s.card.fascn s.card.expiry
 
-unfoldable pub stampAnswer : Session → ℕ → ℕ × Session
-stampAnswer s room = (stampRefusal s room, s)
+unfoldable pub stamp_answer : Session → ℕ → ℕ × Session
+stamp_answer s room = (stamp_refusal s room, s)
 
-unfoldable pub stampBuffer : Session → List ℕ → List ℕ
-stampBuffer s out = cond (eqb (stampRefusal s (length out)) 0) (overFront (stampIn s) out) out
+unfoldable pub stamp_buffer : Session → List ℕ → List ℕ
+stamp_buffer s out = cond (eqb (stamp_refusal s (length out)) 0) (over_front (stamp_in s) out) out
 
 -- ---- preview (document 02, request 6)
 
-unfoldable pub previewRefusal : Session → ℕ → ℕ → List ℕ → ℕ → ℕ
-previewRefusal s kind yesNo fascn room =
-    refusalOf ((4, outOfRange s) ∷ previewConditions since s.opening.mode s.progress.step s.outcomes kind yesNo fascn room)
+unfoldable pub preview_refusal : Session → ℕ → ℕ → List ℕ → ℕ → ℕ
+preview_refusal s kind yes_no fascn room =
+    refusal_of ((4, out_of_range s) ∷ preview_conditions since s.opening.mode s.progress.step s.outcomes kind yes_no fascn room)
 
 -- "a verdict call on a copy of the session, followed by a stamp call": where the verdict call is accepted the number of the stamp call and the lent buffer as that leaves it; where
--- it is refused its number, and the buffer as it was. No session is handed back. The number is `previewRefusal` (`two-calls-number`, proofs/PreviewLaws.antt).
-unfoldable pub previewOf : Session → ℕ → ℕ → List ℕ → List ℕ → ℕ × List ℕ
-previewOf s kind yesNo fascn out =
-    let copy = verdictOf s kind yesNo fascn in
-    cond (eqb copy.0 0) ((stampAnswer copy.1 (length out)).0, stampBuffer copy.1 out) (copy.0, out)
+-- it is refused its number, and the buffer as it was. No session is handed back. The number is `preview_refusal` (`two_calls_number`, proofs/PreviewLaws.antt).
+unfoldable pub preview_of : Session → ℕ → ℕ → List ℕ → List ℕ → ℕ × List ℕ
+preview_of s kind yes_no fascn out =
+    let copy = verdict_of s kind yes_no fascn in
+    cond (eqb copy.0 0) ((stamp_answer copy.1 (length out)).0, stamp_buffer copy.1 out) (copy.0, out)

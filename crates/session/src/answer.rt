@@ -1,7 +1,7 @@
 // Answer: the card's answer to the outstanding command.
 ghost use Rattle.std.specs.Prelude.{◌≡◌, ◌+◌, ◌≤◌, ◌<◌, ◌^◌, length};
-ghost use Rattle.session.specs.Tables.{capacity, objectSize, isResponse, isSentAgain, wrongStatus, isMore, statusSize, answerMost, ruleCause};
-ghost use Rattle.session.specs.Operation.{replyNumber, given, next_of, answerRefusal, causeIn, appendedSession, answerTakenSession, answerTakenBuffer, answer_of, answerBuffer};
+ghost use Rattle.session.specs.Tables.{capacity, object_size, is_response, is_sent_again, wrong_status, is_more, status_size, answer_most, rule_cause};
+ghost use Rattle.session.specs.Operation.{reply_number, given, next_of, answer_refusal, cause_in, appended_session, answer_taken_session, answer_taken_buffer, answer_of, answer_buffer};
 ghost use Rattle.session.specs.Promise.{AnswerPromise};
 
 use crate::figures::{ANSWER_MOST, EMPTY_CAUSE, FULL_CAUSE, OBJECT, STATUS, STATUS_CAUSE};
@@ -12,7 +12,7 @@ use card::command::Status;
 use common::slice;
 
 fn is_response(next: Next) -> bool
-    ensures { result ≡ isResponse (next_of next) }
+    ensures { result ≡ is_response (next_of next) }
 {
     match next {
         Next::Initial => false,
@@ -23,7 +23,7 @@ fn is_response(next: Next) -> bool
 }
 
 fn is_sent_again(next: Next) -> bool
-    ensures { result ≡ isSentAgain (next_of next) }
+    ensures { result ≡ is_sent_again (next_of next) }
 {
     match next {
         Next::Initial => false,
@@ -35,7 +35,7 @@ fn is_sent_again(next: Next) -> bool
 
 // Rule 1, by the status, the command that is answered and the bytes of data.
 fn wrong_status(status: Status, next: Next, n: usize) -> bool
-    ensures { result ≡ wrongStatus status (next_of next) n }
+    ensures { result ≡ wrong_status status (next_of next) n }
 {
     match status {
         Status::Done => false,
@@ -46,7 +46,7 @@ fn wrong_status(status: Status, next: Next, n: usize) -> bool
 }
 
 fn is_more(status: Status) -> bool
-    ensures { result ≡ isMore status }
+    ensures { result ≡ is_more status }
 {
     match status {
         Status::Done => false,
@@ -59,7 +59,7 @@ fn is_more(status: Status) -> bool
 // Rules 1 to 3, the first that fits; 0 where the data is appended.
 fn rule_cause(status: Status, next: Next, n: usize, total: usize, most: usize) -> u8
     requires { total + n < 2 ^ 64 }
-    ensures { result ≡ ruleCause status (next_of next) n total most }
+    ensures { result ≡ rule_cause status (next_of next) n total most }
 {
     if wrong_status(status, next, n) {
         return STATUS_CAUSE;
@@ -76,7 +76,7 @@ fn rule_cause(status: Status, next: Next, n: usize, total: usize, most: usize) -
 
 impl Session {
     fn answer_refusal(self, size: usize, n: usize) -> Reply
-        ensures { replyNumber result ≡ answerRefusal self size n }
+        ensures { reply_number result ≡ answer_refusal self size n }
     {
         if self.values().out_of_range() {
             return Reply::OutOfRange;
@@ -96,7 +96,7 @@ impl Session {
     // The cause that rules 1 to 3 give of an answer with n bytes of data.
     fn cause_in(self, status: Status, n: usize) -> u8
         requires { self.progress.filled + n < 2 ^ 64 }
-        ensures { result ≡ causeIn self status n }
+        ensures { result ≡ cause_in self status n }
     {
         let p = self.progress;
         let next = p.next;
@@ -112,7 +112,7 @@ impl Session {
     // After 61 GET RESPONSE is next; after 6C the same command again; after 90 00 the step's joined data is judged.
     fn appended(self, status: Status, joined: &[u8], n: usize, cancelled: &[u64]) -> Session
         requires { self.progress.filled + n < 2 ^ 64 }
-        ensures { result ≡ appendedSession status self joined.now n cancelled.now }
+        ensures { result ≡ appended_session status self joined.now n cancelled.now }
     {
         match status {
             Status::Done => self.judge(joined, cancelled),
@@ -134,9 +134,9 @@ impl Session {
         status: &[u8],
         cancelled: &[u64],
     ) -> Session
-        requires { (length object.old ≡ objectSize) × (length bytes.now ≤ answerMost) × (length status.now ≡ statusSize) × (self.progress.filled ≤ capacity self.opening.mode self.progress.step) }
-        ensures value { result ≡ answerTakenSession self object.old bytes.now status.now cancelled.now }
-        ensures object_after { object.new ≡ answerTakenBuffer self object.old bytes.now status.now }
+        requires { (length object.old ≡ object_size) × (length bytes.now ≤ answer_most) × (length status.now ≡ status_size) × (self.progress.filled ≤ capacity self.opening.mode self.progress.step) }
+        ensures value { result ≡ answer_taken_session self object.old bytes.now status.now cancelled.now }
+        ensures object_after { object.new ≡ answer_taken_buffer self object.old bytes.now status.now }
     {
         let n = bytes.len();
         let word = command::status_of(status);
@@ -159,8 +159,8 @@ impl Session {
     // The answer's data is appended in the object buffer, and judged where it is the step's last.
     pub fn answer(self, object: &mut [u8], answer: &[u8], cancelled: &[u64]) -> Answered
         ensures result_value { given result ≡ answer_of self object.old answer.now cancelled.now }
-        ensures object_after { object.new ≡ answerBuffer self object.old answer.now }
-        ensures for_every_list { AnswerPromise self object.old answer.now cancelled.now object.new (replyNumber result.reply) result.session }
+        ensures object_after { object.new ≡ answer_buffer self object.old answer.now }
+        ensures for_every_list { AnswerPromise self object.old answer.now cancelled.now object.new (reply_number result.reply) result.session }
     {
         let reply = self.answer_refusal(object.len(), answer.len());
         if reply.number() == 0 {

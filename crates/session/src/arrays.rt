@@ -1,9 +1,9 @@
 // Bytes as an array of a fixed length, a number as such an array, and the lengths of arrays that stand in a struct.
 ghost use Rattle.std.specs.Prelude.{◌≡◌, ◌≤◌, length, replicate};
-ghost use Rattle.card.specs.Fascn.{fascnBytes};
-ghost use Rattle.card.specs.Command.{aidMost};
-ghost use Rattle.session.specs.Tables.{checks, fourBytes};
-ghost use Rattle.common.specs.Lists.{overFront};
+ghost use Rattle.card.specs.Fascn.{fascn_bytes};
+ghost use Rattle.card.specs.Command.{aid_most};
+ghost use Rattle.session.specs.Tables.{checks, four_bytes};
+ghost use Rattle.common.specs.Lists.{over_front};
 
 use crate::figures::{CHECKS, NUMBER_BYTES};
 use card::command::AID_MOST;
@@ -12,8 +12,8 @@ use common::slice;
 
 // The bytes s as an array, zeros after them.
 pub(crate) fn array_aid(s: &[u8]) -> [u8; AID_MOST]
-    requires { length s.now ≤ aidMost }
-    ensures { result ≡ overFront s.now (replicate aidMost 0) }
+    requires { length s.now ≤ aid_most }
+    ensures { result ≡ over_front s.now (replicate aid_most 0) }
 {
     let mut a = [0u8; AID_MOST];
     slice::store(&mut a, 0, s);
@@ -21,7 +21,7 @@ pub(crate) fn array_aid(s: &[u8]) -> [u8; AID_MOST]
 }
 
 pub(crate) fn array_fascn(s: &[u8]) -> [u8; FASCN_BYTES]
-    requires { length s.now ≡ fascnBytes }
+    requires { length s.now ≡ fascn_bytes }
     ensures { result ≡ s.now }
 {
     let mut a = [0u8; FASCN_BYTES];
@@ -31,7 +31,7 @@ pub(crate) fn array_fascn(s: &[u8]) -> [u8; FASCN_BYTES]
 
 // A number of four bytes, high byte first.
 pub fn four_bytes(n: u32) -> [u8; NUMBER_BYTES]
-    ensures { result ≡ fourBytes n }
+    ensures { result ≡ four_bytes n }
 {
     [
         (n / 16777216 % 256) as u8,
@@ -47,9 +47,9 @@ pub fn sized_outcomes(a: [u8; CHECKS])
 {}
 
 pub fn sized_aid(a: [u8; AID_MOST])
-    ensures { length a ≡ aidMost }
+    ensures { length a ≡ aid_most }
 {}
 
 pub fn sized_fascn(a: [u8; FASCN_BYTES])
-    ensures { length a ≡ fascnBytes }
+    ensures { length a ≡ fascn_bytes }
 {}

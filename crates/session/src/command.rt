@@ -1,9 +1,9 @@
 // Command: the next command's bytes.
 ghost use Rattle.std.specs.Prelude.{◌≡◌, true, cond, eqb, length};
 ghost use Rattle.card.specs.Command as card-command;
-ghost use Rattle.session.specs.Condition.{nothingToSend};
+ghost use Rattle.session.specs.Condition.{nothing_to_send};
 ghost use Rattle.session.specs.Ranges.{in_range};
-ghost use Rattle.session.specs.Operation.{replyNumber, commandGiven, initialIn, commandIn, progressSending, withSessionProgress, commandOf, commandBuffer};
+ghost use Rattle.session.specs.Operation.{reply_number, command_given, initial_in, command_in, progress_sending, with_session_progress, command_of, command_buffer};
 ghost use Rattle.session.specs.Promise.{CommandPromise};
 
 use crate::state::{Commanded, Next, Reply, Session};
@@ -14,7 +14,7 @@ use card::command::{CommandAnswer, FIRST_LE};
 impl Session {
     // Whether there is nothing to send: step 3, a cause of 16 to 22, or a command outstanding.
     fn nothing_to_send(self) -> bool
-        ensures { result ≡ nothingToSend self.progress.step self.progress.cause self.progress.outstanding }
+        ensures { result ≡ nothing_to_send self.progress.step self.progress.cause self.progress.outstanding }
     {
         ((self.progress.step == 3) | tables::ends(self.progress.cause)) | self.progress.outstanding
     }
@@ -22,7 +22,7 @@ impl Session {
     // The step's command, SELECT or GET DATA, with a last byte, written to the front of out where it fits.
     fn write_initial(self, last: u8, out: &mut [u8]) -> CommandAnswer
         requires { in_range self ≡ true }
-        ensures { (card-command.commandAnswer result, out.new) ≡ card-command.commandInto (card-command.with_last (initialIn self) last) out.old }
+        ensures { (card-command.command_answer result, out.new) ≡ card-command.command_into (card-command.with_last (initial_in self) last) out.old }
     {
         let opening = self.opening;
         let step = self.progress.step;
@@ -38,7 +38,7 @@ impl Session {
     // The next command, written to the front of out where it fits.
     fn write_command(self, out: &mut [u8]) -> CommandAnswer
         requires { in_range self ≡ true }
-        ensures { (card-command.commandAnswer result, out.new) ≡ card-command.commandInto (commandIn self) out.old }
+        ensures { (card-command.command_answer result, out.new) ≡ card-command.command_into (command_in self) out.old }
     {
         let progress = self.progress;
         let next = progress.next;
@@ -52,7 +52,7 @@ impl Session {
 
     // The session once a command is written, or refused.
     fn sent_by(self, written: CommandAnswer) -> Commanded
-        ensures { commandGiven result ≡ cond (eqb (card-command.commandNumber written) 0) (0, (card-command.commandAnswer written).1, withSessionProgress self (progressSending self.progress)) (card-command.commandNumber written, 0, self) }
+        ensures { command_given result ≡ cond (eqb (card-command.command_number written) 0) (0, (card-command.command_answer written).1, with_session_progress self (progress_sending self.progress)) (card-command.command_number written, 0, self) }
     {
         match written {
             CommandAnswer::Written(count) => {
@@ -79,9 +79,9 @@ impl Session {
 
     // The next command is written to the front of out, and is outstanding.
     pub fn command(self, out: &mut [u8]) -> Commanded
-        ensures result_value { commandGiven result ≡ commandOf self (length out.old) }
-        ensures out_after { out.new ≡ commandBuffer self out.old }
-        ensures for_every_list { CommandPromise self out.old out.new (replyNumber result.reply) result.count result.session }
+        ensures result_value { command_given result ≡ command_of self (length out.old) }
+        ensures out_after { out.new ≡ command_buffer self out.old }
+        ensures for_every_list { CommandPromise self out.old out.new (reply_number result.reply) result.count result.session }
     {
         if self.values().out_of_range() {
             return Commanded {

@@ -1,6 +1,6 @@
 // Field: the value of a field, as a part of the object buffer, and where it lies there.
 ghost use Rattle.std.specs.Prelude.{◌≡◌, ◌+◌, ◌≤◌};
-ghost use Rattle.session.specs.Operation.{partFor, fieldPlace, field_of};
+ghost use Rattle.session.specs.Operation.{part_for, field_place, field_of};
 ghost use Rattle.session.specs.Promise.{FieldPromise, PlacePromise};
 
 use crate::figures::OBJECT;
@@ -12,7 +12,7 @@ use card::object::{EMPTY, Part};
 impl Session {
     // Where the field with a tag lies in its step's data.
     fn part_for(self, step: u8, tag: u8) -> Part
-        ensures { result ≡ partFor self step tag }
+        ensures { result ≡ part_for self step tag }
     {
         let card = self.card;
         if step == 2 {
@@ -25,7 +25,7 @@ impl Session {
     // Where the value of the field with tag EE, 30 to 35, 3E or BC lies in an object buffer of so many bytes; the empty part where the session is dead or out of range, the
     // buffer has another size, the tag is another, or the field is not yet read. A field that is absent has no bytes.
     pub fn place(self, size: usize, tag: u8) -> Part
-        ensures is { result ≡ fieldPlace self size tag }
+        ensures is { result ≡ field_place self size tag }
         ensures inside { result.start + result.len ≤ size }
         ensures for_every_list { PlacePromise self size tag result }
     {

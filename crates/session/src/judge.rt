@@ -1,9 +1,9 @@
 // The joined data of a step, judged once 90 00 has come: its cause, or the next step.
 ghost use Rattle.std.specs.Prelude.{◌≡◌, ◌+◌};
-ghost use Rattle.card.specs.Object.{objectOf, fieldValue};
-ghost use Rattle.card.specs.Date.{dateAnswer};
-ghost use Rattle.session.specs.Tables.{expiryOutcome, listOutcome, kindAt, with_outcome};
-ghost use Rattle.session.specs.Operation.{step2EndSession, judgedSession};
+ghost use Rattle.card.specs.Object.{object_of, field_value};
+ghost use Rattle.card.specs.Date.{date_answer};
+ghost use Rattle.session.specs.Tables.{expiry_outcome, list_outcome, kind_at, with_outcome};
+ghost use Rattle.session.specs.Operation.{step2_end_session, judged_session};
 
 use crate::figures::{CHECKS, FAILED, FASCN_CAUSE, PASSED};
 use crate::state::{Card, Session};
@@ -15,7 +15,7 @@ use card::{date, fascn, object, template};
 
 // The number that a date spells, 0 where it is none.
 fn date_number(d: Date) -> u32
-    ensures { result ≡ (dateAnswer d).1 }
+    ensures { result ≡ (date_answer d).1 }
 {
     match d {
         Date::Real(n) => n,
@@ -24,13 +24,13 @@ fn date_number(d: Date) -> u32
 }
 
 fn expiry_outcome(date: u32, expiry: u32) -> u8
-    ensures { result ≡ expiryOutcome date expiry }
+    ensures { result ≡ expiry_outcome date expiry }
 {
     if date <= expiry { PASSED } else { FAILED }
 }
 
 fn list_outcome(key: Key, cancelled: &[u64]) -> u8
-    ensures { result ≡ listOutcome key.0 cancelled.now }
+    ensures { result ≡ list_outcome key.0 cancelled.now }
 {
     if key.listed(cancelled) {
         FAILED
@@ -41,8 +41,8 @@ fn list_outcome(key: Key, cancelled: &[u64]) -> u8
 
 // The value of a field of the object s, whose parts are given.
 fn field_value<'a>(kind: Kind, parts: [Part; FIELDS], s: &'a [u8], tag: u8) -> &'a [u8]
-    requires { (objectOf kind s.now).1 ≡ parts }
-    ensures { result.now ≡ fieldValue kind tag s.now }
+    requires { (object_of kind s.now).1 ≡ parts }
+    ensures { result.now ≡ field_value kind tag s.now }
 {
     let p = object::part_of(kind, parts, tag);
     let start = p.start as usize;
@@ -58,7 +58,7 @@ fn judged_outcomes(
     key: Key,
     cancelled: &[u64],
 ) -> [u8; CHECKS]
-    ensures { result ≡ with_outcome (with_outcome o 3 (expiryOutcome date expiry)) 4 (listOutcome key.0 cancelled.now) }
+    ensures { result ≡ with_outcome (with_outcome o 3 (expiry_outcome date expiry)) 4 (list_outcome key.0 cancelled.now) }
 {
     let in_time = expiry_outcome(date, expiry);
     let clear = list_outcome(key, cancelled);
@@ -70,7 +70,7 @@ impl Session {
     // Step 0's data is a template or not.
     fn judge_template(self, joined: &[u8], cancelled: &[u64]) -> Session
         requires { self.progress.step ≡ 0 }
-        ensures { result ≡ judgedSession self joined.now cancelled.now }
+        ensures { result ≡ judged_session self joined.now cancelled.now }
     {
         let answer = template::template(joined);
         let cause = answer.number();
@@ -85,8 +85,8 @@ impl Session {
 
     // Step 1's object is good: its FASC-N and its date are judged, and checks 3 and 4 set.
     fn judge_step1(self, parts: [Part; FIELDS], joined: &[u8], cancelled: &[u64]) -> Session
-        requires { (self.progress.step ≡ 1) × (objectOf (kindAt self.opening.mode 1) joined.now ≡ (0, parts)) }
-        ensures { result ≡ judgedSession self joined.now cancelled.now }
+        requires { (self.progress.step ≡ 1) × (object_of (kind_at self.opening.mode 1) joined.now ≡ (0, parts)) }
+        ensures { result ≡ judged_session self joined.now cancelled.now }
     {
         let opening = self.opening;
         let kind = tables::kind_at(opening.mode, 1);
@@ -124,7 +124,7 @@ impl Session {
 
     // Step 2's object is good, and its field BC lies there.
     fn judge_step2(self, part: Part) -> Session
-        ensures { result ≡ step2EndSession self part }
+        ensures { result ≡ step2_end_session self part }
     {
         let progress = progress::at_step(3);
         let mut card = self.card;
@@ -137,7 +137,7 @@ impl Session {
 
     // The step's joined data is judged.
     pub(crate) fn judge(self, joined: &[u8], cancelled: &[u64]) -> Session
-        ensures { result ≡ judgedSession self joined.now cancelled.now }
+        ensures { result ≡ judged_session self joined.now cancelled.now }
     {
         let step = self.progress.step;
         if step == 0 {

@@ -1,7 +1,7 @@
 // Open: a session from mode, date and AID.
 ghost use Rattle.std.specs.Prelude.{◌≡◌, ◌≤◌, length};
-ghost use Rattle.card.specs.Command.{aidMost};
-ghost use Rattle.session.specs.Operation.{replyNumber, given, noCard, dead, opened, openRefusal, openOf};
+ghost use Rattle.card.specs.Command.{aid_most};
+ghost use Rattle.session.specs.Operation.{reply_number, given, no_card, dead, opened, open_refusal, open_of};
 ghost use Rattle.session.specs.Promise.{OpenPromise};
 
 use crate::figures::CHECKS;
@@ -13,7 +13,7 @@ use card::fascn::counts::FASCN_BYTES;
 use card::object::{EMPTY, FIELDS};
 
 fn no_card() -> Card
-    ensures { result ≡ noCard }
+    ensures { result ≡ no_card }
 {
     Card {
         fascn: [0; FASCN_BYTES],
@@ -44,7 +44,7 @@ pub fn dead_session() -> Session
 }
 
 fn open_refusal(mode: u8, date: u32, aid: &[u8]) -> Reply
-    ensures { replyNumber result ≡ openRefusal mode date aid.now }
+    ensures { reply_number result ≡ open_refusal mode date aid.now }
 {
     if !tables::mode_opens(mode) {
         return Reply::WrongMode;
@@ -59,7 +59,7 @@ fn open_refusal(mode: u8, date: u32, aid: &[u8]) -> Reply
 }
 
 fn opened(mode: u8, date: u32, aid: &[u8]) -> Session
-    requires { length aid.now ≤ aidMost }
+    requires { length aid.now ≤ aid_most }
     ensures { result ≡ opened mode date aid.now }
 {
     let bytes = arrays::array_aid(aid);
@@ -82,8 +82,8 @@ fn opened(mode: u8, date: u32, aid: &[u8]) -> Session
 
 // A session freshly opened; the dead session where the opening is refused.
 pub fn open(mode: u8, date: u32, aid: &[u8]) -> Answered
-    ensures result_value { given result ≡ openOf mode date aid.now }
-    ensures for_every_list { OpenPromise mode date aid.now (replyNumber result.reply) result.session }
+    ensures result_value { given result ≡ open_of mode date aid.now }
+    ensures for_every_list { OpenPromise mode date aid.now (reply_number result.reply) result.session }
 {
     let reply = open_refusal(mode, date, aid);
     if reply.number() == 0 {

@@ -1,8 +1,8 @@
 // The ranges of a session's values: exactly those that document 01 lists.
 ghost use Rattle.std.specs.Prelude.{◌≡◌, not, ◌||◌, ◌≤◌, eqb};
-ghost use Rattle.card.specs.Date.{realDate};
-ghost use Rattle.session.specs.Tables.{objectSize};
-ghost use Rattle.session.specs.Ranges.{outcomesInRange, partInside, partsInside, valuesInRange, rangedValues};
+ghost use Rattle.card.specs.Date.{real_date};
+ghost use Rattle.session.specs.Tables.{object_size};
+ghost use Rattle.session.specs.Ranges.{outcomes_in_range, part_inside, parts_inside, values_in_range, ranged_values};
 
 use crate::figures::{CHECKS, OBJECT, OTHER_CARD};
 use crate::state::Session;
@@ -12,7 +12,7 @@ use card::date;
 use card::object::{FIELDS, Part};
 
 fn outcomes_in_range(o: [u8; CHECKS]) -> bool
-    ensures { result ≡ outcomesInRange o }
+    ensures { result ≡ outcomes_in_range o }
 {
     let mut ok = true;
     for i in 0..CHECKS {
@@ -23,15 +23,15 @@ fn outcomes_in_range(o: [u8; CHECKS]) -> bool
 
 // Whether a part of a step's data, which begins at `base`, lies inside the object buffer.
 fn part_inside(base: usize, p: Part) -> bool
-    requires { base ≤ objectSize }
-    ensures { result ≡ partInside base p }
+    requires { base ≤ object_size }
+    ensures { result ≡ part_inside base p }
 {
     base + (p.start as usize) + (p.len as usize) <= OBJECT
 }
 
 fn parts_inside(base: usize, parts: [Part; FIELDS]) -> bool
-    requires { base ≤ objectSize }
-    ensures { result ≡ partsInside base parts }
+    requires { base ≤ object_size }
+    ensures { result ≡ parts_inside base parts }
 {
     let mut ok = true;
     for i in 0..FIELDS {
@@ -41,7 +41,7 @@ fn parts_inside(base: usize, parts: [Part; FIELDS]) -> bool
 }
 
 fn expiry_in_range(n: u32) -> bool
-    ensures { result ≡ eqb n 0 || realDate n }
+    ensures { result ≡ eqb n 0 || real_date n }
 {
     if n == 0 {
         return true;
@@ -68,7 +68,7 @@ pub(crate) struct Values {
 impl Values {
     // Whether the session that they are of is dead or out of range.
     pub(crate) fn out_of_range(self) -> bool
-        ensures { result ≡ not (valuesInRange self) }
+        ensures { result ≡ not (values_in_range self) }
     {
         let o = self.outcomes;
         let opening = (tables::mode_in_range(self.mode) & date::real(self.date))
@@ -85,7 +85,7 @@ impl Values {
 
 impl Session {
     pub(crate) fn values(self) -> Values
-        ensures { result ≡ rangedValues self }
+        ensures { result ≡ ranged_values self }
     {
         let opening = self.opening;
         let p = self.progress;

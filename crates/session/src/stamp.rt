@@ -1,10 +1,10 @@
 // Stamp: 46 bytes that say what was found.
 ghost use Rattle.std.specs.Prelude.{◌≡◌, ◌≤◌, length};
-ghost use Rattle.common.specs.Lists.{overFront};
-ghost use Rattle.common.specs.Refusal.{refusalOf};
-ghost use Rattle.session.specs.Tables.{since, statusShown, stampSize};
-ghost use Rattle.session.specs.Condition.{stampConditions};
-ghost use Rattle.session.specs.Operation.{replyNumber, given, stampRefusal, stampHead, stampIn, stampAnswer, stampBuffer};
+ghost use Rattle.common.specs.Lists.{over_front};
+ghost use Rattle.common.specs.Refusal.{refusal_of};
+ghost use Rattle.session.specs.Tables.{since, status_shown, stamp_size};
+ghost use Rattle.session.specs.Condition.{stamp_conditions};
+ghost use Rattle.session.specs.Operation.{reply_number, given, stamp_refusal, stamp_head, stamp_in, stamp_answer, stamp_buffer};
 ghost use Rattle.session.specs.Promise.{StampPromise};
 
 use crate::figures::{DATE_AT, EXPIRY_AT, FASCN_AT, HEAD, OUTCOMES_AT, STAMP, STATUS_CAUSE};
@@ -14,14 +14,14 @@ use common::slice;
 
 // A byte of the status word, 00 unless the cause is 16.
 fn status_shown(cause: u8, sw: u8) -> u8
-    ensures { result ≡ statusShown cause sw }
+    ensures { result ≡ status_shown cause sw }
 {
     if cause == STATUS_CAUSE { sw } else { 0 }
 }
 
 // Whether a buffer of so many bytes has room for the stamp: 6 where it has not.
 pub(crate) fn room_refusal(room: usize) -> Reply
-    ensures { replyNumber result ≡ refusalOf (stampConditions since room) }
+    ensures { reply_number result ≡ refusal_of (stamp_conditions since room) }
 {
     if room < STAMP {
         return Reply::ShortBuffer;
@@ -31,7 +31,7 @@ pub(crate) fn room_refusal(room: usize) -> Reply
 
 impl Session {
     fn stamp_refusal(self, room: usize) -> Reply
-        ensures { replyNumber result ≡ stampRefusal self room }
+        ensures { reply_number result ≡ stamp_refusal self room }
     {
         if self.values().out_of_range() {
             return Reply::OutOfRange;
@@ -41,7 +41,7 @@ impl Session {
 
     // Mode, standing, cause, status word and step.
     fn stamp_head(self) -> [u8; HEAD]
-        ensures { result ≡ stampHead self }
+        ensures { result ≡ stamp_head self }
     {
         let mode = self.opening.mode;
         let p = self.progress;
@@ -54,8 +54,8 @@ impl Session {
     }
 
     pub(crate) fn write_stamp(self, out: &mut [u8])
-        requires { stampSize since ≤ length out.old }
-        ensures { out.new ≡ overFront (stampIn self) out.old }
+        requires { stamp_size since ≤ length out.old }
+        ensures { out.new ≡ over_front (stamp_in self) out.old }
     {
         let head = self.stamp_head();
         let opening = self.opening;
@@ -75,9 +75,9 @@ impl Session {
 
     // The stamp, written to the first 46 bytes of out.
     pub fn stamp(self, out: &mut [u8]) -> Answered
-        ensures result_value { given result ≡ stampAnswer self (length out.old) }
-        ensures out_after { out.new ≡ stampBuffer self out.old }
-        ensures for_every_list { StampPromise self out.old out.new (replyNumber result.reply) result.session }
+        ensures result_value { given result ≡ stamp_answer self (length out.old) }
+        ensures out_after { out.new ≡ stamp_buffer self out.old }
+        ensures for_every_list { StampPromise self out.old out.new (reply_number result.reply) result.session }
     {
         let reply = self.stamp_refusal(out.len());
         if reply.number() == 0 {

@@ -1,6 +1,6 @@
 // The session's values, by groups, and the answers of its calls.
 ghost use Rattle.std.specs.Prelude.{◌≡◌};
-ghost use Rattle.session.specs.Operation.{replyNumber};
+ghost use Rattle.session.specs.Operation.{reply_number};
 
 use crate::figures::CHECKS;
 use card::command::AID_MOST;
@@ -58,7 +58,7 @@ pub struct Session {
     pub card: Card,
 }
 
-// What a call answers. `replyNumber` gives document 01's number of each case.
+// What a call answers. `reply_number` gives document 01's number of each case.
 #[derive(Drop)]
 pub enum Reply {
     Accepted,
@@ -95,7 +95,7 @@ pub enum Reply {
 impl Reply {
     // Document 01's number, 0 where the call is accepted.
     pub fn number(self) -> u8
-        ensures { result ≡ replyNumber self }
+        ensures { result ≡ reply_number self }
     {
         match self {
             Reply::Accepted => 0,

@@ -1,6 +1,6 @@
 // Document 01's tables by mode, step, check and verdict kind, with request 7 of document 02.
 ghost use Rattle.std.specs.Prelude.{◌≡◌, ◌≤◌, ◌<◌};
-ghost use Rattle.session.specs.Tables.{since, checks, modeInRange, modeOpens, goodKind, needs, checkServed, needed_at, neededOutcomes, outcomeOf, with_outcome, lowestFrom, causeOf, allPassed, standingOf, ends, readsPicture, hasStep2, kindAt, stepAfter, base_of, capacity, stepRead, stepOfTag};
+ghost use Rattle.session.specs.Tables.{since, checks, mode_in_range, mode_opens, good_kind, needs, check_served, needed_at, needed_outcomes, outcome_of, with_outcome, lowest_from, cause_of, all_passed, standing_of, ends, reads_picture, has_step2, kind_at, step_after, base_of, capacity, step_read, step_of_tag};
 
 use crate::figures::{
     AWAITED, CHECKS, FAILED, GRANTED, KINDS, MODES, OPEN, OTHER_CARD, PASSED, PICTURE_CAPACITY,
@@ -14,20 +14,20 @@ use card::object::{
 
 // The modes of a session in range.
 pub(crate) fn mode_in_range(mode: u8) -> bool
-    ensures { result ≡ modeInRange since mode }
+    ensures { result ≡ mode_in_range since mode }
 {
     (1 <= mode) & (mode <= MODES)
 }
 
 // The modes that may be opened.
 pub(crate) fn mode_opens(mode: u8) -> bool
-    ensures { result ≡ modeOpens since mode }
+    ensures { result ≡ mode_opens since mode }
 {
     mode_in_range(mode)
 }
 
 pub(crate) fn good_kind(kind: u8) -> bool
-    ensures { result ≡ goodKind since kind }
+    ensures { result ≡ good_kind since kind }
 {
     (1 <= kind) & (kind <= KINDS)
 }
@@ -61,7 +61,7 @@ pub(crate) fn needs(mode: u8, check: u8) -> bool
 
 // The check that a verdict kind serves.
 pub(crate) fn check_served(kind: u8) -> u8
-    ensures is { result ≡ checkServed kind }
+    ensures is { result ≡ check_served kind }
     ensures place { (1 ≤ result) × (result ≤ checks) }
 {
     if kind == 1 {
@@ -89,7 +89,7 @@ fn needed_at(mode: u8, i: usize) -> u8
 }
 
 pub(crate) fn needed_outcomes(mode: u8) -> [u8; CHECKS]
-    ensures { result ≡ neededOutcomes since mode }
+    ensures { result ≡ needed_outcomes since mode }
 {
     let mut o = [0u8; CHECKS];
     for i in 0..CHECKS {
@@ -100,7 +100,7 @@ pub(crate) fn needed_outcomes(mode: u8) -> [u8; CHECKS]
 
 pub(crate) fn outcome_of(o: [u8; CHECKS], check: u8) -> u8
     requires { (1 ≤ check) × (check ≤ checks) }
-    ensures { result ≡ outcomeOf o check }
+    ensures { result ≡ outcome_of o check }
 {
     o[(check - 1) as usize]
 }
@@ -116,7 +116,7 @@ pub(crate) fn with_outcome(o: [u8; CHECKS], check: u8, v: u8) -> [u8; CHECKS]
 
 // The lowest check with outcome 3 or 4; 0 where there is none.
 fn lowest_failed(o: [u8; CHECKS]) -> u8
-    ensures { result ≡ lowestFrom 1 o }
+    ensures { result ≡ lowest_from 1 o }
 {
     let mut lowest: usize = 0;
     let mut i: usize = CHECKS;
@@ -131,14 +131,14 @@ fn lowest_failed(o: [u8; CHECKS]) -> u8
 
 // The cause that a stamp shows: what arose in the reading, else the lowest failed check, else 0.
 pub(crate) fn cause_of(arose: u8, o: [u8; CHECKS]) -> u8
-    ensures { result ≡ causeOf arose o }
+    ensures { result ≡ cause_of arose o }
 {
     if arose == 0 { lowest_failed(o) } else { arose }
 }
 
 // Whether each outcome that the mode needs is 2.
 fn all_passed(mode: u8, o: [u8; CHECKS]) -> bool
-    ensures { result ≡ allPassed mode o }
+    ensures { result ≡ all_passed mode o }
 {
     let mut ok = true;
     for i in 0..CHECKS {
@@ -150,7 +150,7 @@ fn all_passed(mode: u8, o: [u8; CHECKS]) -> bool
 
 // 0 open, 1 granted, 2 rejected.
 pub(crate) fn standing_of(mode: u8, step: u8, cause: u8, o: [u8; CHECKS]) -> u8
-    ensures { result ≡ standingOf mode step cause o }
+    ensures { result ≡ standing_of mode step cause o }
 {
     if cause != 0 {
         return REJECTED;
@@ -168,21 +168,21 @@ pub(crate) fn ends(cause: u8) -> bool
 
 // Whether step 2 of the mode reads the picture: modes 5 and 6.
 pub(crate) fn reads_picture(mode: u8) -> bool
-    ensures { result ≡ readsPicture mode }
+    ensures { result ≡ reads_picture mode }
 {
     (mode == 5) | (mode == 6)
 }
 
 // Whether the mode has step 2: modes 3 and 4, which read the fingers, and those that read the picture.
 pub(crate) fn has_step2(mode: u8) -> bool
-    ensures { result ≡ hasStep2 mode }
+    ensures { result ≡ has_step2 mode }
 {
     ((mode == 3) | (mode == 4)) | reads_picture(mode)
 }
 
 // The object that a step reads.
 pub(crate) fn kind_at(mode: u8, step: u8) -> Kind
-    ensures { result ≡ kindAt mode step }
+    ensures { result ≡ kind_at mode step }
 {
     if step == 2 {
         return if reads_picture(mode) {
@@ -199,7 +199,7 @@ pub(crate) fn kind_at(mode: u8, step: u8) -> Kind
 }
 
 pub(crate) fn step_after(mode: u8, step: u8) -> u8
-    ensures { result ≡ stepAfter mode step }
+    ensures { result ≡ step_after mode step }
 {
     if step == 0 {
         return 1;
@@ -227,14 +227,14 @@ pub(crate) fn capacity(mode: u8, step: u8) -> usize
 
 // Whether step k has ended well in a session at a step: a later one is reached, and step 2 is one of the mode's.
 pub(crate) fn step_read(mode: u8, step: u8, k: u8) -> bool
-    ensures { result ≡ stepRead mode step k }
+    ensures { result ≡ step_read mode step k }
 {
     (k < step) & (!(k == 2) | has_step2(mode))
 }
 
 // The step whose object has the field with a tag; 0 for a tag that a field call may not ask for.
 pub(crate) fn step_of_tag(tag: u8) -> u8
-    ensures { result ≡ stepOfTag tag }
+    ensures { result ≡ step_of_tag tag }
 {
     let first = (tag == BUFFER_LENGTH_TAG) | (tag == FASCN_TAG);
     let older = (tag == AGENCY_TAG) | (tag == ORGANIZATION_TAG) | (tag == DUNS_TAG);

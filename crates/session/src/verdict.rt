@@ -1,7 +1,7 @@
 // Verdict: the host's verdict on a check.
 ghost use Rattle.std.specs.Prelude.{◌≡◌};
-ghost use Rattle.session.specs.Tables.{verdictOutcome};
-ghost use Rattle.session.specs.Operation.{replyNumber, given, verdictRefusal, verdictTakenSession, verdictOf};
+ghost use Rattle.session.specs.Tables.{verdict_outcome};
+ghost use Rattle.session.specs.Operation.{reply_number, given, verdict_refusal, verdict_taken_session, verdict_of};
 ghost use Rattle.session.specs.Promise.{VerdictPromise};
 
 use crate::figures::{AWAITED, FAILED, OTHER_CARD, PASSED};
@@ -11,7 +11,7 @@ use card::fascn;
 
 // 3 for a no; 2 for a yes on the card's own bytes, 4 for a yes on others.
 fn verdict_outcome(own: &[u8], yes: u8, fascn: &[u8]) -> u8
-    ensures { result ≡ verdictOutcome own.now yes fascn.now }
+    ensures { result ≡ verdict_outcome own.now yes fascn.now }
 {
     if yes == 0 {
         return FAILED;
@@ -25,7 +25,7 @@ fn verdict_outcome(own: &[u8], yes: u8, fascn: &[u8]) -> u8
 
 impl Session {
     pub(crate) fn verdict_refusal(self, kind: u8, yes: u8, fascn: &[u8]) -> Reply
-        ensures { replyNumber result ≡ verdictRefusal self kind yes fascn.now }
+        ensures { reply_number result ≡ verdict_refusal self kind yes fascn.now }
     {
         if self.values().out_of_range() {
             return Reply::OutOfRange;
@@ -57,7 +57,7 @@ impl Session {
 
     // The outcome of the verdict's check is set.
     pub(crate) fn take_verdict(self, kind: u8, yes: u8, fascn: &[u8]) -> Session
-        ensures { result ≡ verdictTakenSession self kind yes fascn.now }
+        ensures { result ≡ verdict_taken_session self kind yes fascn.now }
     {
         let card = self.card;
         let own = card.fascn;
@@ -72,8 +72,8 @@ impl Session {
 
     // The host's verdict: kind 1 to 5, no (0) or yes (1), and the 25 bytes of the FASC-N that it is on.
     pub fn verdict(self, kind: u8, yes: u8, fascn: &[u8]) -> Answered
-        ensures result_value { given result ≡ verdictOf self kind yes fascn.now }
-        ensures for_every_list { VerdictPromise self kind yes fascn.now (replyNumber result.reply) result.session }
+        ensures result_value { given result ≡ verdict_of self kind yes fascn.now }
+        ensures for_every_list { VerdictPromise self kind yes fascn.now (reply_number result.reply) result.session }
     {
         let reply = self.verdict_refusal(kind, yes, fascn);
         if reply.number() == 0 {

@@ -6,9 +6,9 @@ use Rattle.std.specs.Prelude.{Bool, ◌&&◌, List, ℕ, eqb, leb, length, get_o
 use Rattle.common.specs.Lists.{all}
 
 -- Each byte of s lies between those of the two strings, and there are as many.
-unfoldable pub betweenAt : List ℕ → List ℕ → List ℕ → ℕ → Bool
-betweenAt lowest highest s i = leb (get_or lowest i 0) (get_or s i 0) && leb (get_or s i 0) (get_or highest i 0)
+unfoldable pub between_at : List ℕ → List ℕ → List ℕ → ℕ → Bool
+between_at lowest highest s i = leb (get_or lowest i 0) (get_or s i 0) && leb (get_or s i 0) (get_or highest i 0)
 
 unfoldable pub between : List ℕ → List ℕ → List ℕ → Bool
 between lowest highest s =
-    eqb (length s) (length lowest) && eqb (length s) (length highest) && all (length s) (betweenAt lowest highest s)
+    eqb (length s) (length lowest) && eqb (length s) (length highest) && all (length s) (between_at lowest highest s)

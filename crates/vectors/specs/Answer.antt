@@ -1,28 +1,28 @@
--- The calls by name, and the text of each one's answer. A call is a row of `callRows` and a row of `answerText`.
+-- The calls by name, and the text of each one's answer. A call is a row of `call_rows` and a row of `answer_text`.
 -- Assumes nothing.
 use Rattle.std.specs.Prelude.{cond, List, [], ◌∷◌, ℕ}
-use Rattle.common.specs.Lists.{sameBytes}
+use Rattle.common.specs.Lists.{same_bytes}
 use Rattle.card.specs.declared.object.Kind.TheVariants as kinds
-use Rattle.vectors.specs.RefusalText.{noVector}
-use Rattle.vectors.specs.FascnText.{unpackText, packText}
-use Rattle.vectors.specs.ObjectText.{headerText, templateText, objectText, dateText, realText}
-use Rattle.vectors.specs.CommandText.{selectText, selectAgainText, getDataText, getResponseText, statusText}
-use Rattle.vectors.specs.VisualText.{lookedUpText}
-use Rattle.vectors.specs.MergeText.{mergeText}
-use Rattle.vectors.specs.CallsText.{callsText}
+use Rattle.vectors.specs.RefusalText.{no_vector}
+use Rattle.vectors.specs.FascnText.{unpack_text, pack_text}
+use Rattle.vectors.specs.ObjectText.{header_text, template_text, object_text, date_text, real_text}
+use Rattle.vectors.specs.CommandText.{select_text, select_again_text, get_orata_text, get_response_text, status_text}
+use Rattle.vectors.specs.VisualText.{looked_up_text}
+use Rattle.vectors.specs.MergeText.{merge_text}
+use Rattle.vectors.specs.CallsText.{calls_text}
 use Rattle.vectors.specs.declared.answer.VectorCall.{VectorCall}
 use Rattle.vectors.specs.declared.answer.VectorCall.TheVariants.{Unknown, Unpack, Pack, Header, Template, Date, Real, Object, Select, SelectAgain, GetData, GetResponse, Status, Cin, Merge, Calls}
 
 -- ---- the names
 
 -- The call of a name, by rows of a name and a call.
-unfoldable pub callAmong : List (List ℕ × VectorCall) → List ℕ → VectorCall
-callAmong [] name = Unknown
-callAmong (r ∷ rs) name = cond (sameBytes name r.0) r.1 (callAmong rs name)
+unfoldable pub call_among : List (List ℕ × VectorCall) → List ℕ → VectorCall
+call_among [] name = Unknown
+call_among (r ∷ rs) name = cond (same_bytes name r.0) r.1 (call_among rs name)
 
 -- The names. A number is the room of the buffer that a command is lent, and `short..` lends one that may be too short.
-abbrev pub callRows : List (List ℕ × VectorCall)
-callRows =
+abbrev pub call_rows : List (List ℕ × VectorCall)
+call_rows =
     -- unpack
     (0x75 ∷ 0x6E ∷ 0x70 ∷ 0x61 ∷ 0x63 ∷ 0x6B ∷ [], Unpack)
     -- pack
@@ -73,26 +73,26 @@ callRows =
     ∷ (0x63 ∷ 0x61 ∷ 0x6C ∷ 0x6C ∷ 0x73 ∷ [], Calls)
     ∷ []
 
-unfoldable pub callNamed : List ℕ → VectorCall
-callNamed name = callAmong callRows name
+unfoldable pub call_named : List ℕ → VectorCall
+call_named name = call_among call_rows name
 
 -- ---- the answers
 
 -- What a call says of the bytes s.
-unfoldable pub answerText : VectorCall → List ℕ → List ℕ
-answerText Unknown s = noVector
-answerText Unpack s = unpackText s
-answerText Pack s = packText s
-answerText Header s = headerText s
-answerText Template s = templateText s
-answerText Date s = dateText s
-answerText Real s = realText s
-answerText (Object kind) s = objectText kind s
-answerText (Select room) s = selectText 0x00 room s
-answerText (SelectAgain room) s = selectAgainText room s
-answerText (GetData kind room) s = getDataText kind room s
-answerText (GetResponse room) s = getResponseText room s
-answerText Status s = statusText s
-answerText Cin s = lookedUpText s
-answerText Merge s = mergeText s
-answerText Calls s = callsText s
+unfoldable pub answer_text : VectorCall → List ℕ → List ℕ
+answer_text Unknown s = no_vector
+answer_text Unpack s = unpack_text s
+answer_text Pack s = pack_text s
+answer_text Header s = header_text s
+answer_text Template s = template_text s
+answer_text Date s = date_text s
+answer_text Real s = real_text s
+answer_text (Object kind) s = object_text kind s
+answer_text (Select room) s = select_text 0x00 room s
+answer_text (SelectAgain room) s = select_again_text room s
+answer_text (GetData kind room) s = get_orata_text kind room s
+answer_text (GetResponse room) s = get_response_text room s
+answer_text Status s = status_text s
+answer_text Cin s = looked_up_text s
+answer_text Merge s = merge_text s
+answer_text Calls s = calls_text s

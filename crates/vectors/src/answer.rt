@@ -1,6 +1,6 @@
 // The calls of a vector's line, by name, and what each answers. A call is a row. To add one:
 // a variant of VectorCall, a row at the front of call_of, an arm of answer, and a function that writes its text, in the file of its subject;
-// in specs/Answer.antt a row at the end of `callRows` and a row of `answerText`, and the definition of that text in the file of its subject;
+// in specs/Answer.antt a row at the end of `call_rows` and a row of `answer_text`, and the definition of that text in the file of its subject;
 // in the proofs of call_of and of answer a line each, and a proof of the function that writes the text.
 mod calls;
 mod command;
@@ -10,9 +10,9 @@ mod object;
 mod visual;
 
 ghost use Rattle.std.specs.Prelude.{◌≡◌, cond};
-ghost use Rattle.common.specs.Lists.{sameBytes};
+ghost use Rattle.common.specs.Lists.{same_bytes};
 ghost use Rattle.append.specs.Append.{Added};
-ghost use Rattle.vectors.specs.Answer.{callNamed, answerText};
+ghost use Rattle.vectors.specs.Answer.{call_named, answer_text};
 
 use crate::refusal;
 use card::command::FIRST_LE;
@@ -42,14 +42,14 @@ pub(crate) enum VectorCall {
 
 // The call of a row where the name is the row's, else the other.
 fn row(name: &[u8], word: &[u8], call: VectorCall, other: VectorCall) -> VectorCall
-    ensures { result ≡ cond (sameBytes name.now word.now) call other }
+    ensures { result ≡ cond (same_bytes name.now word.now) call other }
 {
     if slice::same(name, word) { call } else { other }
 }
 
-// The call of a name. The last row here is the first of `callRows` in the definitions; the names differ, so that their order tells nothing.
+// The call of a name. The last row here is the first of `call_rows` in the definitions; the names differ, so that their order tells nothing.
 pub(crate) fn call_of(name: &[u8]) -> VectorCall
-    ensures { result ≡ callNamed name.now }
+    ensures { result ≡ call_named name.now }
 {
     let c = row(name, b"calls", VectorCall::Calls, VectorCall::Unknown);
     let c = row(name, b"merge", VectorCall::Merge, c);
@@ -91,7 +91,7 @@ pub(crate) fn call_of(name: &[u8]) -> VectorCall
 
 // What a call says of the bytes s: an arm for each.
 pub(crate) fn answer(out: &mut [u8], at: usize, call: VectorCall, s: &[u8]) -> usize
-    ensures { Added out.old at out.new result (answerText call s.now) }
+    ensures { Added out.old at out.new result (answer_text call s.now) }
 {
     match call {
         VectorCall::Unknown => refusal::add_no_vector(out, at),

@@ -1,8 +1,8 @@
 // The input in blocks: the text of a block's lines, the bytes of a line that is not whole yet, and the text of a last line.
 ghost use Rattle.std.specs.Prelude.{◌≡◌, [], ◌-◌, ◌≤◌, length, take, drop};
-ghost use Rattle.common.specs.Lists.{overFront};
+ghost use Rattle.common.specs.Lists.{over_front};
 ghost use Rattle.append.specs.Append.{Added};
-ghost use Rattle.vectors.specs.Input.{linesText, rest_of, lastLineText, moved};
+ghost use Rattle.vectors.specs.Input.{lines_text, rest_of, last_line_text, moved};
 
 use crate::line;
 use common::slice;
@@ -16,7 +16,7 @@ pub(crate) struct Lines {
 
 // The text of a block's lines, each of which ends by 0A.
 pub(crate) fn add_lines(out: &mut [u8], at: usize, block: &[u8]) -> Lines
-    ensures text { Added out.old at out.new result.count (linesText [] block.now) }
+    ensures text { Added out.old at out.new result.count (lines_text [] block.now) }
     ensures rest { rest_of [] block.now ≡ drop result.used block.now }
     ensures inside { result.used ≤ length block.now }
 {
@@ -33,7 +33,7 @@ pub(crate) fn add_lines(out: &mut [u8], at: usize, block: &[u8]) -> Lines
 
 // The text of a last line without 0A, where it has a byte.
 pub(crate) fn add_last(out: &mut [u8], at: usize, s: &[u8]) -> usize
-    ensures { Added out.old at out.new result (lastLineText s.now) }
+    ensures { Added out.old at out.new result (last_line_text s.now) }
 {
     if s.len() == 0 {
         return append::add(out, at, b"");
@@ -64,8 +64,8 @@ pub(crate) struct Used {
 // The first `end` bytes of a block: the text of their lines goes to the front of out, and what is no whole line yet to the front of the block.
 pub(crate) fn use_block(block: &mut [u8], out: &mut [u8], end: usize) -> Used
     requires { end ≤ length block.old }
-    ensures text { Added out.old 0 out.new result.text (linesText [] (take end block.old)) }
-    ensures holds { block.new ≡ overFront (rest_of [] (take end block.old)) block.old }
+    ensures text { Added out.old 0 out.new result.text (lines_text [] (take end block.old)) }
+    ensures holds { block.new ≡ over_front (rest_of [] (take end block.old)) block.old }
     ensures held { (result.held ≡ length (rest_of [] (take end block.old))) × (result.held ≤ end) }
 {
     let done = add_lines(out, 0, slice::front(block, end));

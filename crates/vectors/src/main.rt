@@ -1,7 +1,7 @@
 // Runs the vectors of standard input through the proved functions of the crates card, ccl and session, and prints each line with what they say of it. The
 // expected lines, in the file `stdout`, are written from the documents.
 //
-// A line is `PLACE: CALL HEX`: where the vector is from, one word, and pairs of upper-case hexadecimal digits. What it gives is `lineText` in the definitions, and
+// A line is `PLACE: CALL HEX`: where the vector is from, one word, and pairs of upper-case hexadecimal digits. What it gives is `line_text` in the definitions, and
 // src/answer.rt says how a call is added.
 //
 // The functions of this file read and write; what they hand on to be written is made by proved functions. What is read goes by blocks, and a line that does not

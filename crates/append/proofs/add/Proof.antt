@@ -6,7 +6,7 @@ use native.Mathlib.Omega.{arith}
 use borrow.Author.Rules.{rules}
 use lib.ListN.{length, take, length-take}
 use lib.Seq.{length-take-le}
-use Rattle.common.proofs.StoreLaws.{store-fits}
+use Rattle.common.proofs.StoreLaws.{store_fits}
 use Rattle.append.proofs.AppendLaws.{added_full, added-part}
 use Rattle.append.proofs.add.Statement.{statement}
 use Rattle.append.proofs.add.Tie as tie
@@ -26,7 +26,7 @@ returns-2 c =
     let s = a.s.now in
     let room : a.at + length (take n.result s) ≤ length b = rw length-take (omega arith) in
     record {
-      is = ap (λ (l : List ℕ). (a.at + n.result, l)) (call.store.ensures ∙ store-fits b (take n.result s) a.at room)
+      is = ap (λ (l : List ℕ). (a.at + n.result, l)) (call.store.ensures ∙ store_fits b (take n.result s) a.at room)
           ∙ added-part b s (take n.result s) a.at n.result (omega arith) n.ensures.0 refl;
     }
 

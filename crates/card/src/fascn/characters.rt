@@ -2,8 +2,8 @@
 // A character is kept as one number, the bit sent first highest.
 ghost use Rattle.std.specs.Prelude.{◌≡◌, ◌+◌, ◌-◌, ◌*◌, ◌%◌, ◌/◌, ◌^◌, ◌<◌, length, get_or};
 ghost use Rattle.common.specs.Lists.{list_of, all, number, written};
-ghost use Rattle.card.specs.Fascn.{fascnBytes, fascnCharacters};
-ghost use Rattle.card.specs.FascnCode.{Readable, Writable, oddChar, valueChar, charOf, charsIn, bytesOfChars};
+ghost use Rattle.card.specs.Fascn.{fascn_bytes, fascn_characters};
+ghost use Rattle.card.specs.FascnCode.{Readable, Writable, odd_char, value_char, char_of, chars_in, bytes_of_chars};
 
 use crate::fascn::counts::{CHARACTERS, FASCN_BYTES};
 
@@ -37,8 +37,8 @@ fn put_digits(out: &mut [u8], at: usize, w: u64, n: usize, bits: usize, base: u6
 
 // The 40 characters of 25 bytes.
 pub(crate) fn characters_in(s: &[u8]) -> [u8; CHARACTERS]
-    requires { length s.now ≡ fascnBytes }
-    ensures { result ≡ charsIn s.now }
+    requires { length s.now ≡ fascn_bytes }
+    ensures { result ≡ chars_in s.now }
 {
     let mut c = [0u8; CHARACTERS];
     for g in 0..5 {
@@ -50,7 +50,7 @@ pub(crate) fn characters_in(s: &[u8]) -> [u8; CHARACTERS]
 
 // The 25 bytes of 40 characters.
 pub(crate) fn bytes_of(c: &[u8; CHARACTERS]) -> [u8; FASCN_BYTES]
-    ensures { result ≡ bytesOfChars c.now }
+    ensures { result ≡ bytes_of_chars c.now }
 {
     let mut s = [0u8; FASCN_BYTES];
     for g in 0..5 {
@@ -62,21 +62,21 @@ pub(crate) fn bytes_of(c: &[u8; CHARACTERS]) -> [u8; FASCN_BYTES]
 
 // The count of ones of a character is odd.
 fn odd(c: u8) -> bool
-    ensures { result ≡ oddChar c }
+    ensures { result ≡ odd_char c }
 {
     (c / 16 % 2 + c / 8 % 2 + c / 4 % 2 + c / 2 % 2 + c % 2) % 2 == 1
 }
 
 // The value of a character: its first four bits, lowest first.
 fn value(c: u8) -> u8
-    ensures { result ≡ valueChar c }
+    ensures { result ≡ value_char c }
 {
     c / 16 % 2 + 2 * (c / 8 % 2) + 4 * (c / 4 % 2) + 8 * (c / 2 % 2)
 }
 
 // The character of a value: its four bits, lowest first, and a bit that makes the count of ones odd.
 pub(crate) fn character_of(x: u8) -> u8
-    ensures { result ≡ charOf x }
+    ensures { result ≡ char_of x }
 {
     16 * (x % 2)
         + 8 * (x / 2 % 2)
@@ -87,7 +87,7 @@ pub(crate) fn character_of(x: u8) -> u8
 
 // Every character has an odd count of ones.
 pub(crate) fn all_odd(c: &[u8; CHARACTERS]) -> bool
-    ensures { result ≡ all fascnCharacters (λ i. oddChar (get_or c.now i 0)) }
+    ensures { result ≡ all fascn_characters (λ i. odd_char (get_or c.now i 0)) }
 {
     let mut ok = true;
     for i in 0..CHARACTERS {
@@ -98,7 +98,7 @@ pub(crate) fn all_odd(c: &[u8; CHARACTERS]) -> bool
 
 // The values of the characters.
 pub(crate) fn values_in(c: &[u8; CHARACTERS]) -> [u8; CHARACTERS]
-    ensures { result ≡ list_of fascnCharacters (λ i. valueChar (get_or c.now i 0)) }
+    ensures { result ≡ list_of fascn_characters (λ i. value_char (get_or c.now i 0)) }
 {
     let mut v = [0u8; CHARACTERS];
     for i in 0..CHARACTERS {

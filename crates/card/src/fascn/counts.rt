@@ -1,6 +1,6 @@
 // The counts of a FASC-N (document 01, section FASC-N): its bytes, characters and digits, the place of its check
-// character, counted from 0, and the digits of its key. In the definitions they are `fascnBytes`, `fascnCharacters`,
-// `fascnDigits`, `checkPlace` and `keyLength`.
+// character, counted from 0, and the digits of its key. In the definitions they are `fascn_bytes`, `fascn_characters`,
+// `fascn_digits`, `check_place` and `key_length`.
 pub const FASCN_BYTES: usize = 25;
 
 pub const CHARACTERS: usize = 40;

@@ -1,13 +1,13 @@
 // The order of a FASC-N: where its digits and marks stand among the 40 characters, the check value, and a run of numbers copied.
 ghost use Rattle.std.specs.Prelude.{◌≡◌, ◌+◌, ◌≤◌, length, get_or};
 ghost use Rattle.common.specs.Lists.{list_of, all, written};
-ghost use Rattle.card.specs.Fascn.{fascnDigits, digitsIn, marksIn, decimalAt};
-ghost use Rattle.card.specs.FascnCode.{charOf, inOrder, checkDigits, charsOf};
+ghost use Rattle.card.specs.Fascn.{fascn_digits, digits_in, marks_in, decimal_at};
+ghost use Rattle.card.specs.FascnCode.{char_of, in_order, check_digits, chars_of};
 
 use crate::fascn::characters;
 use crate::fascn::counts::{CHARACTERS, CHECK_PLACE, DIGITS};
 
-// The values of the start sentinel, the field separator and the end sentinel; `startValue`, `separatorValue` and `endValue` in the definitions.
+// The values of the start sentinel, the field separator and the end sentinel; `start_value`, `separator_value` and `end_value` in the definitions.
 const SS: u8 = 11;
 
 const FS: u8 = 13;
@@ -26,7 +26,7 @@ pub(crate) fn copy_run(dst: &mut [u8], at: usize, src: &[u8], from: usize, n: us
 
 // The digits among the 40 values.
 pub(crate) fn digits_in(v: &[u8; CHARACTERS]) -> [u8; DIGITS]
-    ensures { result ≡ digitsIn v.now }
+    ensures { result ≡ digits_in v.now }
 {
     let mut d = [0u8; DIGITS];
     // agency, system, credential, series, issue; then person, category, organisation and association, with no mark between
@@ -41,7 +41,7 @@ pub(crate) fn digits_in(v: &[u8; CHARACTERS]) -> [u8; DIGITS]
 
 // Every mark stands in its place among the 40 values.
 pub(crate) fn marks_in(v: &[u8; CHARACTERS]) -> bool
-    ensures { result ≡ marksIn v.now }
+    ensures { result ≡ marks_in v.now }
 {
     (v[0] == SS)
         & (v[5] == FS)
@@ -54,7 +54,7 @@ pub(crate) fn marks_in(v: &[u8; CHARACTERS]) -> bool
 
 // No digit is above 9.
 pub(crate) fn all_decimal(d: &[u8; DIGITS]) -> bool
-    ensures { result ≡ all fascnDigits (decimalAt d.now) }
+    ensures { result ≡ all fascn_digits (decimal_at d.now) }
 {
     let mut ok = true;
     for k in 0..DIGITS {
@@ -65,7 +65,7 @@ pub(crate) fn all_decimal(d: &[u8; DIGITS]) -> bool
 
 // The exclusive or of the marks and the digits.
 pub(crate) fn check_value(d: &[u8; DIGITS]) -> u8
-    ensures { result ≡ checkDigits d.now }
+    ensures { result ≡ check_digits d.now }
 {
     let mut x = SS ^ FS ^ FS ^ FS ^ FS ^ FS ^ ES;
     for k in 0..DIGITS {
@@ -76,7 +76,7 @@ pub(crate) fn check_value(d: &[u8; DIGITS]) -> u8
 
 // The characters of the digits.
 fn digit_characters(d: &[u8; DIGITS]) -> [u8; DIGITS]
-    ensures { result ≡ list_of fascnDigits (λ k. charOf (get_or d.now k 0)) }
+    ensures { result ≡ list_of fascn_digits (λ k. char_of (get_or d.now k 0)) }
 {
     let mut c = [0u8; DIGITS];
     for k in 0..DIGITS {
@@ -87,7 +87,7 @@ fn digit_characters(d: &[u8; DIGITS]) -> [u8; DIGITS]
 
 // 40 characters in order: the digits' characters e, the marks' between them, and the check character last.
 fn in_order(e: &[u8; DIGITS], ss: u8, fs: u8, es: u8, check: u8) -> [u8; CHARACTERS]
-    ensures { result ≡ inOrder e.now ss fs es check }
+    ensures { result ≡ in_order e.now ss fs es check }
 {
     let mut c = [fs; CHARACTERS];
     c[0] = ss;
@@ -105,7 +105,7 @@ fn in_order(e: &[u8; DIGITS], ss: u8, fs: u8, es: u8, check: u8) -> [u8; CHARACT
 
 // The 40 characters of the FASC-N with the digits d.
 pub(crate) fn characters_of(d: &[u8; DIGITS]) -> [u8; CHARACTERS]
-    ensures { result ≡ charsOf d.now }
+    ensures { result ≡ chars_of d.now }
 {
     let e = digit_characters(d);
     let check = characters::character_of(check_value(d));

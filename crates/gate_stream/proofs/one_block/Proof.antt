@@ -6,7 +6,7 @@ use lib.ListN.{length}
 use mir.Syntax.{w64}
 use mir.Val.{to_z, of_z}
 use Rattle.io.specs.Counts.{clamp_len}
-use Rattle.gate_stream.specs.Stream.{readSize}
+use Rattle.gate_stream.specs.Stream.{read_size}
 use Rattle.gate_stream.proofs.one_block.Statement.{statement}
 use Rattle.gate_stream.proofs.one_block.Tie as tie
 
@@ -28,7 +28,7 @@ returns c =
     let run = at.run-block.ensures in
     let same : length read.read.new.1.0 ≡ length first.args.input.now = search rules in
     let got = to_z w64 (of_z w64 read.read.result) in
-    let e : counted.count.result ≡ clamp_len got readSize = counted.count.ensures.1 ∙ ap (clamp_len got) (same ∙ first.requires.0) in
+    let e : counted.count.result ≡ clamp_len got read_size = counted.count.ensures.1 ∙ ap (clamp_len got) (same ∙ first.requires.0) in
     (rw (← e) run.0, (rw (← e) run.1.0, rw (← e) (c.before.write-out.ensures ∙ run.1.1.0)))
 
 pub one-block-spec : {M : Type 1} → statement M

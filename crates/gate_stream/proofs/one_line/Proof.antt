@@ -3,9 +3,9 @@ use mathlib.Core.Path.{sym, ap, ◌∙◌}
 use native.Mathlib.Omega.{arith}
 use borrow.Author.Rules.{rules}
 use lib.ListN.{length}
-use Rattle.gate_lines.specs.Input.{inputStateOf}
-use Rattle.gate_lines.proofs.ReplyTextLaws.{text_in}
-use Rattle.gate_stream.proofs.StreamLaws.{text-long, part_small}
+use Rattle.gate_lines.specs.Input.{input_state_of}
+use Rattle.gate_lines.proofs.ReplyTextLaws.{text_in_lem}
+use Rattle.gate_stream.proofs.StreamLaws.{text_long, part_small}
 use Rattle.gate_stream.proofs.one_line.Statement.{statement}
 use Rattle.gate_stream.proofs.one_line.Tie as tie
 
@@ -14,18 +14,18 @@ add-requires c κs =
     let fed = c.before.before in
     let first = fed.before.before.before.before.before.before.before in
     let a = first.args in
-    let r = fed.feed-line.result in
-    let e = fed.feed-line.ensures in
+    let r = fed.feed_line.result in
+    let e = fed.feed_line.ensures in
     let f = e.1.1.1.1.0 in
-    let m = inputStateOf a.at.state a.at.held a.cards.now a.object.now a.line.now in
-    (f, omega (arith, sym (text-long r.text f) ∙ ap length (text_in _ e.1.0), part_small m a.block.now a.at.used r.used, first.requires.1))
+    let m = input_state_of a.at.state a.at.held a.cards.now a.object.now a.line.now in
+    (f, omega (arith, sym (text_long r.text f) ∙ ap length (text_in_lem _ e.1.0), part_small m a.block.now a.at.used r.used, first.requires.1))
 
 returns : tie.Need-returns
 returns c =
     let at = c.before.before.before.before.before.before in
-    let fed = at.feed-line.ensures in
+    let fed = at.feed_line.ensures in
     let stored = c.before.before.before.add.ensures in
-    let text = text_in _ fed.1.0 in
+    let text = text_in_lem _ fed.1.0 in
     (fed.0, (rw (← text) stored.1, (rw (← text) stored.0, fed.1.1.1.0 at.before.before.before.before.before.before.before.requires.0)))
 
 pub one-line-spec : {M : Type 1} → statement M

@@ -8,16 +8,16 @@ use mir.Syntax.{w64}
 use mir.ValLaws.{to_z-of_z}
 use lib.ListN.{length}
 use Rattle.common.proofs.TestLaws.{and_left, and_right}
-use Rattle.gate_lines.specs.Input.{inputStateOf}
-use Rattle.gate_stream.specs.Stream.{readSize, goesOn}
-use Rattle.gate_stream.proofs.StreamLaws.{FedBy, fed-start, fed-block, fed-end}
+use Rattle.gate_lines.specs.Input.{input_state_of}
+use Rattle.gate_stream.specs.Stream.{read_size, goes_on}
+use Rattle.gate_stream.proofs.StreamLaws.{FedBy, fed_start, fed_block, fed_end}
 use Rattle.gate_stream.proofs.run_input.Statement.{statement}
 use Rattle.gate_stream.proofs.run_input.Tie as tie
 
 abbrev invariant-loop : tie.invariant-loop
 invariant-loop fd cards₀ object₀ line₀ input₀ out₀ at₀ turns₀ cards object line input out at turns =
     (length input ≡ length input₀) × (length out ≡ length out₀)
-    × FedBy turns (inputStateOf at₀.state at₀.held cards₀ object₀ line₀) (inputStateOf at.state at.held cards object line) (goesOn at.got at.wrote.taken)
+    × FedBy turns (input_state_of at₀.state at₀.held cards₀ object₀ line₀) (input_state_of at.state at.held cards object line) (goes_on at.got at.wrote.taken)
 
 abbrev decreases-loop : tie.decreases-loop
 decreases-loop fd cards₀ object₀ line₀ input₀ out₀ at₀ turns₀ cards object line input out at turns = turns
@@ -40,7 +40,7 @@ loop-less c =
     omega (arith, ltb-true 0 turns (and_left (ltb 0 turns) _ test.if1.true))
 
 -- the number is what is read back from its bits
-go_on : (c : tie.After-goes-on invariant-loop decreases-loop) → c.goes_on.result ≡ goesOn c.before.before.loop.at.got c.before.before.loop.at.wrote.taken
+go_on : (c : tie.After-goes-on invariant-loop decreases-loop) → c.goes_on.result ≡ goes_on c.before.before.loop.at.got c.before.before.loop.at.wrote.taken
 go_on c =
     let back = to_z-of_z w64 c.before.before.loop.at.got (record { sfits = c.before.struct_told.given.1.1.0.1 }) in
     rw back at c.goes_on.ensures
@@ -58,14 +58,14 @@ loop-again c =
     let same : length done.new.1.1.1.1.1.0 ≡ length at.loop.input = done.auto.1.1.1.1.1.0 in (
       search rules,
       search rules,
-      fed-block turns _ _ _ _ _ _ readSize _ at.loop.invariant.2 going (omega arith) (same ∙ at.loop.invariant.0 ∙ first.requires.0) (ltb-true 0 _ (and_left _ _ go)) done.ensures.0,
+      fed_block turns _ _ _ _ _ _ read_size _ at.loop.invariant.2 going (omega arith) (same ∙ at.loop.invariant.0 ∙ first.requires.0) (ltb-true 0 _ (and_left _ _ go)) done.ensures.0,
     )
 
 returns : tie.Need-returns invariant-loop decreases-loop
-returns c = fed-end _ _ _ _ c.before.before.before.loop.invariant.2 (rw (← go_on c.before) c.if1.false)
+returns c = fed_end _ _ _ _ c.before.before.before.loop.invariant.2 (rw (← go_on c.before) c.if1.false)
 
 pub run-input-spec : {M : Type 1} → statement M
 run-input-spec =
     tie.close
     (tie.spec
-    invariant-loop decreases-loop (λ c. (refl, refl, fed-start _ _)) (λ c κs. search rules) sub-turns one-block-requires loop-less loop-again (λ c. search rules) (λ c. search rules) returns)
+    invariant-loop decreases-loop (λ c. (refl, refl, fed_start _ _)) (λ c κs. search rules) sub-turns one-block-requires loop-less loop-again (λ c. search rules) (λ c. search rules) returns)

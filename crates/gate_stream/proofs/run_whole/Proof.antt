@@ -3,20 +3,20 @@ use mathlib.Core.Path.{◌≡◌, sym, ◌∙◌}
 use native.Mathlib.Omega.{arith}
 use borrow.Author.Rules.{rules}
 use lib.ListN.{length}
-use Rattle.gate_stream.specs.Stream.{outSize}
-use Rattle.gate_stream.proofs.StreamLaws.{start-fresh, ends_with, ends-none, ends_some}
+use Rattle.gate_stream.specs.Stream.{out_size}
+use Rattle.gate_stream.proofs.StreamLaws.{start_fresh, ends_with, ends_none, ends_some}
 use Rattle.gate_stream.proofs.run_whole.Statement.{statement}
 use Rattle.gate_stream.proofs.run_whole.Tie as tie
 
 -- the buffer for text keeps its size
-out-long : (c : tie.After-run-input) → length c.run-input.new.1.1.1.1.1.1.0 ≡ outSize
+out-long : (c : tie.After-run-input) → length c.run-input.new.1.1.1.1.1.1.0 ≡ out_size
 out-long c =
     let started = c.before.before.before.before.before.before in
     let same : length c.run-input.new.1.1.1.1.1.1.0 ≡ length started.before.before.before.args.out.now = search rules in
     same ∙ started.before.before.before.requires.1
 
 returns : tie.Need-returns
-returns c = ends-none _ _ _ (sym c.before.stops.ensures ∙ c.if1.true)
+returns c = ends_none _ _ _ (sym c.before.stops.ensures ∙ c.if1.true)
 
 last-text-requires : tie.Need-last-text-requires
 last-text-requires c κs = let tested = c.before.before.before.before in out-long tested.before.before.before.before.before.before.before
@@ -26,8 +26,8 @@ write-out-requires c κs =
     let last = c.before.before.before in
     let tested = last.before.before.before.before.before in
     let run = tested.before.before.before.before.before.before.before in
-    let same : length last.last-text.new.1.1.1.1.0 ≡ length run.run-input.new.1.1.1.1.1.1.0 = search rules in
-    omega (arith, last.last-text.ensures.1.1, same, out-long run)
+    let same : length last.last_text_lem.new.1.1.1.1.0 ≡ length run.run-input.new.1.1.1.1.1.1.0 = search rules in
+    omega (arith, last.last_text_lem.ensures.1.1, same, out-long run)
 
 returns-2 : tie.Need-returns-2
 returns-2 c =
@@ -37,8 +37,8 @@ returns-2 c =
     let at-start = run.before.before.before.before.before.before in
     let started = at-start.start in
     let a = at-start.before.before.before.args in
-    let begins = start-fresh started.result a.cards.now a.object.now a.line.now started.ensures in
-    let last = at_last.last-text.ensures in
+    let begins = start_fresh started.result a.cards.now a.object.now a.line.now started.ensures in
+    let last = at_last.last_text_lem.ensures in
     ends_some _ _ _ _ (sym tested.before.stops.ensures ∙ tested.if1.false)
     (ends_with a.object.now _ _ _ _ _ _ begins run.run-input.ensures (c.write-out.ensures ∙ last.0) last.1.0)
 

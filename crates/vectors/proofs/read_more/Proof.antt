@@ -4,7 +4,7 @@ use Prim.Native.Nat.{◌-◌}
 use native.Mathlib.Omega.{arith}
 use borrow.Author.Rules.{rules}
 use lib.ListN.{length, drop, length-drop}
-use Rattle.vectors.proofs.InputLaws.{part-keeps}
+use Rattle.vectors.proofs.InputLaws.{part_keeps}
 use Rattle.vectors.proofs.read_more.Statement.{statement}
 use Rattle.vectors.proofs.read_more.Tie as tie
 
@@ -14,7 +14,7 @@ returns-2 c =
     let start = at_read.before.before.before.before in
     let b = start.args.block.now in
     let n = start.args.held in
-    ((omega arith, omega arith), part-keeps b at_read.read.new.1.0 (drop (length b - n) (drop n b)) n start.requires)
+    ((omega arith, omega arith), part_keeps b at_read.read.new.1.0 (drop (length b - n) (drop n b)) n start.requires)
 
 returns-3 : tie.Need-returns-3
 returns-3 c =
@@ -23,7 +23,7 @@ returns-3 c =
     let b = start.args.block.now in
     let n = start.args.held in
     let e = ap length c.before.after.ensures ∙ length-drop n _ in
-    ((omega arith, omega (arith, e, c.count.ensures.0)), part-keeps b at_read.read.new.1.0 (drop (length b - n) (drop n b)) n start.requires)
+    ((omega arith, omega (arith, e, c.count.ensures.0)), part_keeps b at_read.read.new.1.0 (drop (length b - n) (drop n b)) n start.requires)
 
 pub read-more-spec : {M : Type 1} → statement M
 read-more-spec =

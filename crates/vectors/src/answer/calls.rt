@@ -1,21 +1,21 @@
 // A list of direct calls on a session, as a line spells them, and the text of what each call gives.
 ghost use Rattle.std.specs.Prelude.{◌≡◌, [], ◌≤◌, length, get_or};
-ghost use Rattle.session.specs.Operation.{commandOf, commandBuffer, answer_of, answerBuffer, field_of, stampRefusal, stampBuffer};
+ghost use Rattle.session.specs.Operation.{command_of, command_buffer, answer_of, answer_buffer, field_of, stamp_refusal, stamp_buffer};
 ghost use Rattle.append.specs.Append.{Added};
-ghost use Rattle.vectors.specs.CallsText.{directCall, argumentCount, dateIn, openBy, verdictBy, previewBy, roomIn, openWord, answerWord, verdictWord, previewWord, stampWord, numberedText, bufferText, countedText, fieldText, directText, after_call, bufferAfter, firstText, afterFirst, hostAt, callTexts, callsText};
+ghost use Rattle.vectors.specs.CallsText.{direct_call, argument_count, date_in, open_by, verdict_by, preview_by, room_in, open_word, answer_word, verdict_word, preview_word, stamp_word, numbered_text, buffer_text, counted_text, field_text, direct_text, after_call, buffer_after, first_text, after_first, host_at, call_texts, calls_text};
 
 use common::{number, slice};
 use session::figures::OBJECT;
 use session::open;
 use session::state::Session;
 
-// The bytes before the arguments of a call; `callHeadSize` in the definitions.
+// The bytes before the arguments of a call; `call_head_size` in the definitions.
 const HEAD: usize = 3;
 
-// The most bytes of a buffer that a call is lent; `mostRoom` in the definitions.
+// The most bytes of a buffer that a call is lent; `most_room` in the definitions.
 const ROOM: usize = 64;
 
-// A call, by the byte that names it; `directCall` in the definitions.
+// A call, by the byte that names it; `direct_call` in the definitions.
 #[derive(Drop)]
 pub(crate) enum DirectCall {
     Open,
@@ -36,7 +36,7 @@ pub(crate) struct CallRun {
 }
 
 fn direct_call(n: u8) -> DirectCall
-    ensures { result ≡ directCall n }
+    ensures { result ≡ direct_call n }
 {
     if n == 1 {
         return DirectCall::Open;
@@ -64,7 +64,7 @@ fn direct_call(n: u8) -> DirectCall
 
 // How many bytes the arguments of the first call of s have.
 fn argument_count(s: &[u8]) -> usize
-    ensures is { result ≡ argumentCount s.now }
+    ensures is { result ≡ argument_count s.now }
     ensures most { result ≤ 65535 }
 {
     256 * slice::byte(s, 1) as usize + slice::byte(s, 2) as usize
@@ -72,7 +72,7 @@ fn argument_count(s: &[u8]) -> usize
 
 // The date of an opening with the arguments a.
 fn date_in(a: &[u8]) -> u32
-    ensures { result ≡ dateIn a.now }
+    ensures { result ≡ date_in a.now }
 {
     let mut date = 0u32;
     for j in 0..4 {
@@ -83,7 +83,7 @@ fn date_in(a: &[u8]) -> u32
 
 // The room of the buffer that a call is lent.
 fn room_in(call: DirectCall, a: &[u8]) -> usize
-    ensures { result ≡ roomIn call a.now }
+    ensures { result ≡ room_in call a.now }
 {
     match call {
         DirectCall::Open => 0,
@@ -99,7 +99,7 @@ fn room_in(call: DirectCall, a: &[u8]) -> usize
 
 // `(open N)`.
 fn add_numbered(out: &mut [u8], at: usize, word: &[u8], n: u8) -> usize
-    ensures { Added out.old at out.new result (numberedText word.now n) }
+    ensures { Added out.old at out.new result (numbered_text word.now n) }
 {
     let head = append::add(out, at, word);
     let number = append::add_decimal(out, head, n as u64);
@@ -108,7 +108,7 @@ fn add_numbered(out: &mut [u8], at: usize, word: &[u8], n: u8) -> usize
 
 // `(stamp N HEX)`.
 fn add_buffer(out: &mut [u8], at: usize, word: &[u8], n: u8, buffer: &[u8]) -> usize
-    ensures { Added out.old at out.new result (bufferText word.now n buffer.now) }
+    ensures { Added out.old at out.new result (buffer_text word.now n buffer.now) }
 {
     let head = append::add(out, at, word);
     let number = append::add_decimal(out, head, n as u64);
@@ -119,7 +119,7 @@ fn add_buffer(out: &mut [u8], at: usize, word: &[u8], n: u8, buffer: &[u8]) -> u
 
 // `(command N COUNT HEX)`.
 fn add_counted(out: &mut [u8], at: usize, n: u8, count: usize, buffer: &[u8]) -> usize
-    ensures { Added out.old at out.new result (countedText n count buffer.now) }
+    ensures { Added out.old at out.new result (counted_text n count buffer.now) }
 {
     let head = append::add(out, at, b"(command ");
     let number = append::add_decimal(out, head, n as u64);
@@ -132,7 +132,7 @@ fn add_counted(out: &mut [u8], at: usize, n: u8, count: usize, buffer: &[u8]) ->
 
 // `(field HEX)`.
 fn add_part(out: &mut [u8], at: usize, part: &[u8]) -> usize
-    ensures { Added out.old at out.new result (fieldText part.now) }
+    ensures { Added out.old at out.new result (field_text part.now) }
 {
     let head = append::add(out, at, b"(field ");
     let bytes = append::add_hex(out, head, part);
@@ -141,8 +141,8 @@ fn add_part(out: &mut [u8], at: usize, part: &[u8]) -> usize
 
 // An opening with the arguments a.
 fn run_open(out: &mut [u8], at: usize, a: &[u8]) -> CallRun
-    ensures text { Added out.old at out.new result.end (numberedText openWord (openBy a.now).0) }
-    ensures session { result.session ≡ (openBy a.now).1 }
+    ensures text { Added out.old at out.new result.end (numbered_text open_word (open_by a.now).0) }
+    ensures session { result.session ≡ (open_by a.now).1 }
 {
     let opened = open::open(slice::byte(a, 0), date_in(a), slice::after(a, 5));
     let session = opened.session;
@@ -153,9 +153,9 @@ fn run_open(out: &mut [u8], at: usize, a: &[u8]) -> CallRun
 
 // A command call that is lent a buffer.
 fn run_command(out: &mut [u8], at: usize, session: Session, buffer: &mut [u8]) -> CallRun
-    ensures text { Added out.old at out.new result.end (countedText (commandOf session (length buffer.old)).0 (commandOf session (length buffer.old)).1 (commandBuffer session buffer.old)) }
-    ensures session { result.session ≡ (commandOf session (length buffer.old)).2 }
-    ensures holds { buffer.new ≡ commandBuffer session buffer.old }
+    ensures text { Added out.old at out.new result.end (counted_text (command_of session (length buffer.old)).0 (command_of session (length buffer.old)).1 (command_buffer session buffer.old)) }
+    ensures session { result.session ≡ (command_of session (length buffer.old)).2 }
+    ensures holds { buffer.new ≡ command_buffer session buffer.old }
 {
     let sent = session.command(buffer);
     let session = sent.session;
@@ -166,9 +166,9 @@ fn run_command(out: &mut [u8], at: usize, session: Session, buffer: &mut [u8]) -
 
 // An answer, with no list.
 fn run_answer(out: &mut [u8], at: usize, session: Session, object: &mut [u8], a: &[u8]) -> CallRun
-    ensures text { Added out.old at out.new result.end (numberedText answerWord (answer_of session object.old a.now []).0) }
+    ensures text { Added out.old at out.new result.end (numbered_text answer_word (answer_of session object.old a.now []).0) }
     ensures session { result.session ≡ (answer_of session object.old a.now []).1 }
-    ensures holds { object.new ≡ answerBuffer session object.old a.now }
+    ensures holds { object.new ≡ answer_buffer session object.old a.now }
 {
     let none = [0u64; 0];
     let answered = session.answer(object, a, &none);
@@ -180,8 +180,8 @@ fn run_answer(out: &mut [u8], at: usize, session: Session, object: &mut [u8], a:
 
 // A verdict with the arguments a.
 fn run_verdict(out: &mut [u8], at: usize, session: Session, a: &[u8]) -> CallRun
-    ensures text { Added out.old at out.new result.end (numberedText verdictWord (verdictBy session a.now).0) }
-    ensures session { result.session ≡ (verdictBy session a.now).1 }
+    ensures text { Added out.old at out.new result.end (numbered_text verdict_word (verdict_by session a.now).0) }
+    ensures session { result.session ≡ (verdict_by session a.now).1 }
 {
     let answered = session.verdict(slice::byte(a, 0), slice::byte(a, 1), slice::after(a, 2));
     let session = answered.session;
@@ -192,8 +192,8 @@ fn run_verdict(out: &mut [u8], at: usize, session: Session, a: &[u8]) -> CallRun
 
 // A preview with the arguments a that is lent a buffer.
 fn run_preview(out: &mut [u8], at: usize, session: Session, a: &[u8], buffer: &mut [u8]) -> usize
-    ensures text { Added out.old at out.new result (bufferText previewWord (previewBy session a.now buffer.old).0 (previewBy session a.now buffer.old).1) }
-    ensures holds { buffer.new ≡ (previewBy session a.now buffer.old).1 }
+    ensures text { Added out.old at out.new result (buffer_text preview_word (preview_by session a.now buffer.old).0 (preview_by session a.now buffer.old).1) }
+    ensures holds { buffer.new ≡ (preview_by session a.now buffer.old).1 }
 {
     let reply = session.preview(
         slice::byte(a, 0),
@@ -206,8 +206,8 @@ fn run_preview(out: &mut [u8], at: usize, session: Session, a: &[u8], buffer: &m
 
 // A stamp call that is lent a buffer.
 fn run_stamp(out: &mut [u8], at: usize, session: Session, buffer: &mut [u8]) -> usize
-    ensures text { Added out.old at out.new result (bufferText stampWord (stampRefusal session (length buffer.old)) (stampBuffer session buffer.old)) }
-    ensures holds { buffer.new ≡ stampBuffer session buffer.old }
+    ensures text { Added out.old at out.new result (buffer_text stamp_word (stamp_refusal session (length buffer.old)) (stamp_buffer session buffer.old)) }
+    ensures holds { buffer.new ≡ stamp_buffer session buffer.old }
 {
     let answered = session.stamp(buffer);
     let reply = answered.reply;
@@ -216,7 +216,7 @@ fn run_stamp(out: &mut [u8], at: usize, session: Session, buffer: &mut [u8]) -> 
 
 // A field call.
 fn run_field(out: &mut [u8], at: usize, session: Session, object: &[u8], a: &[u8]) -> usize
-    ensures { Added out.old at out.new result (fieldText (field_of session object.now (get_or a.now 0 0))) }
+    ensures { Added out.old at out.new result (field_text (field_of session object.now (get_or a.now 0 0))) }
 {
     let part = session.field(object, slice::byte(a, 0));
     add_part(out, at, part)
@@ -232,9 +232,9 @@ fn run_call(
     a: &[u8],
     buffer: &mut [u8],
 ) -> CallRun
-    ensures text { Added out.old at out.new result.end (directText call (record { session = session; object = object.old }) a.now buffer.old) }
+    ensures text { Added out.old at out.new result.end (direct_text call (record { session = session; object = object.old }) a.now buffer.old) }
     ensures host { record { session = result.session; object = object.new } ≡ after_call call (record { session = session; object = object.old }) a.now buffer.old }
-    ensures holds { buffer.new ≡ bufferAfter call (record { session = session; object = object.old }) a.now buffer.old }
+    ensures holds { buffer.new ≡ buffer_after call (record { session = session; object = object.old }) a.now buffer.old }
 {
     match call {
         DirectCall::Open => run_open(out, at, a),
@@ -262,8 +262,8 @@ fn run_call(
 
 // The first call of s; no bytes are no call.
 fn run_first(out: &mut [u8], at: usize, session: Session, object: &mut [u8], s: &[u8]) -> CallRun
-    ensures text { Added out.old at out.new result.end (firstText (record { session = session; object = object.old }) s.now) }
-    ensures host { record { session = result.session; object = object.new } ≡ afterFirst (record { session = session; object = object.old }) s.now }
+    ensures text { Added out.old at out.new result.end (first_text (record { session = session; object = object.old }) s.now) }
+    ensures host { record { session = result.session; object = object.new } ≡ after_first (record { session = session; object = object.old }) s.now }
 {
     if s.len() == 0 {
         let end = append::add(out, at, b"");
@@ -278,8 +278,8 @@ fn run_first(out: &mut [u8], at: usize, session: Session, object: &mut [u8], s: 
 
 // The calls that s spells, one after another.
 fn run_calls(out: &mut [u8], at: usize, start: Session, object: &mut [u8], s: &[u8]) -> CallRun
-    ensures text { Added out.old at out.new result.end (callTexts (record { session = start; object = object.old }) s.now) }
-    ensures host { record { session = result.session; object = object.new } ≡ hostAt (record { session = start; object = object.old }) s.now (length s.now) }
+    ensures text { Added out.old at out.new result.end (call_texts (record { session = start; object = object.old }) s.now) }
+    ensures host { record { session = result.session; object = object.new } ≡ host_at (record { session = start; object = object.old }) s.now (length s.now) }
 {
     let mut session = start;
     let mut end = append::add(out, at, b"");
@@ -296,7 +296,7 @@ fn run_calls(out: &mut [u8], at: usize, start: Session, object: &mut [u8], s: &[
 
 // What the calls of a line give.
 pub(crate) fn add_calls(out: &mut [u8], at: usize, s: &[u8]) -> usize
-    ensures { Added out.old at out.new result (callsText s.now) }
+    ensures { Added out.old at out.new result (calls_text s.now) }
 {
     let mut object = [0u8; OBJECT];
     let start = open::dead_session();

@@ -1,8 +1,8 @@
 // The texts of what unpack and pack say, and of the characters of document 003's figure 7.
 ghost use Rattle.std.specs.Prelude.{◌≡◌, [], ◌+◌, ◌*◌, ◌<◌, length};
-ghost use Rattle.card.specs.Fascn.{fascnBytes, fascnCharacters, fascnDigits, bit_at};
+ghost use Rattle.card.specs.Fascn.{fascn_bytes, fascn_characters, fascn_digits, bit_at};
 ghost use Rattle.append.specs.Append.{Added};
-ghost use Rattle.vectors.specs.FascnText.{opensField, digitText, spacedDigits, characterText, againText, unpackedText, unpackText, packText, codeText, digitCodes, codesText};
+ghost use Rattle.vectors.specs.FascnText.{opens_field, digit_text, spaced_digits, character_text, again_text, unpacked_text, unpack_text, pack_text, code_text, digit_codes, codes_text};
 
 use crate::refusal;
 use card::fascn;
@@ -10,14 +10,14 @@ use card::fascn::counts;
 
 // Digit k of 32 is the first of a field, and not of the first field.
 fn opens_field(k: usize) -> bool
-    ensures { result ≡ opensField k }
+    ensures { result ≡ opens_field k }
 {
     (k == 4) | (k == 8) | (k == 14) | (k == 15) | (k == 16) | (k == 26) | (k == 27) | (k == 31)
 }
 
 // Digit k of 32, with a space in front where it opens a field.
 fn add_digit(out: &mut [u8], at: usize, k: usize, x: u8) -> usize
-    ensures { Added out.old at out.new result (digitText k x) }
+    ensures { Added out.old at out.new result (digit_text k x) }
 {
     if opens_field(k) {
         let both = [b' ', 48 + x % 10];
@@ -29,7 +29,7 @@ fn add_digit(out: &mut [u8], at: usize, k: usize, x: u8) -> usize
 
 // The 32 digits by field.
 fn add_digits(out: &mut [u8], at: usize, d: [u8; counts::DIGITS]) -> usize
-    ensures { Added out.old at out.new result (spacedDigits fascnDigits d) }
+    ensures { Added out.old at out.new result (spaced_digits fascn_digits d) }
 {
     let mut end = append::add(out, at, b"");
     for k in 0..counts::DIGITS {
@@ -40,7 +40,7 @@ fn add_digits(out: &mut [u8], at: usize, d: [u8; counts::DIGITS]) -> usize
 
 // Bit p of 25 bytes, as the digit 0 or 1.
 fn bit_digit(s: [u8; counts::FASCN_BYTES], p: usize) -> u8
-    requires { p < 8 * fascnBytes }
+    requires { p < 8 * fascn_bytes }
     ensures { result ≡ bit_at s p + 48 }
 {
     (s[p / 8] >> (7 - p % 8)) % 2 + 48
@@ -48,8 +48,8 @@ fn bit_digit(s: [u8; counts::FASCN_BYTES], p: usize) -> u8
 
 // The five bits of character i of 25 bytes, in the order sent.
 fn add_character(out: &mut [u8], at: usize, s: [u8; counts::FASCN_BYTES], i: usize) -> usize
-    requires { i < fascnCharacters }
-    ensures { Added out.old at out.new result (characterText s i) }
+    requires { i < fascn_characters }
+    ensures { Added out.old at out.new result (character_text s i) }
 {
     let bits = [
         bit_digit(s, 5 * i),
@@ -63,7 +63,7 @@ fn add_character(out: &mut [u8], at: usize, s: [u8; counts::FASCN_BYTES], i: usi
 
 // The bytes that the digits pack to.
 fn add_again(out: &mut [u8], at: usize, s: &[u8; counts::FASCN_BYTES]) -> usize
-    ensures { Added out.old at out.new result (againText s.now) }
+    ensures { Added out.old at out.new result (again_text s.now) }
 {
     let head = append::add(out, at, b", packed again ");
     append::add_hex(out, head, s)
@@ -71,7 +71,7 @@ fn add_again(out: &mut [u8], at: usize, s: &[u8; counts::FASCN_BYTES]) -> usize
 
 // The digits, the check character, the key, and the bytes that the digits pack to.
 fn add_unpacked(out: &mut [u8], at: usize, d: [u8; counts::DIGITS]) -> usize
-    ensures { Added out.old at out.new result (unpackedText d) }
+    ensures { Added out.old at out.new result (unpacked_text d) }
 {
     let p = fascn::pack(d);
     let again = p.bytes;
@@ -86,7 +86,7 @@ fn add_unpacked(out: &mut [u8], at: usize, d: [u8; counts::DIGITS]) -> usize
 
 // What unpack says of the bytes s.
 pub(crate) fn add_unpack(out: &mut [u8], at: usize, s: &[u8]) -> usize
-    ensures { Added out.old at out.new result (unpackText s.now) }
+    ensures { Added out.old at out.new result (unpack_text s.now) }
 {
     let u = fascn::unpack(s);
     let answer = u.answer;
@@ -100,7 +100,7 @@ pub(crate) fn add_unpack(out: &mut [u8], at: usize, s: &[u8]) -> usize
 
 // The 32 bytes of s.
 fn digits_in(s: &[u8]) -> [u8; counts::DIGITS]
-    requires { length s.now ≡ fascnDigits }
+    requires { length s.now ≡ fascn_digits }
     ensures { result ≡ s.now }
 {
     let mut d = [0u8; counts::DIGITS];
@@ -112,7 +112,7 @@ fn digits_in(s: &[u8]) -> [u8; counts::DIGITS]
 
 // What pack says of the 32 digits s.
 pub(crate) fn add_pack(out: &mut [u8], at: usize, s: &[u8]) -> usize
-    ensures { Added out.old at out.new result (packText s.now) }
+    ensures { Added out.old at out.new result (pack_text s.now) }
 {
     if s.len() != counts::DIGITS {
         return refusal::add_no_vector(out, at);
@@ -130,8 +130,8 @@ pub(crate) fn add_pack(out: &mut [u8], at: usize, s: &[u8]) -> usize
 
 // A line of figure 7: character i of the FASC-N whose digits are all x.
 fn add_code(out: &mut [u8], at: usize, name: &[u8], x: u8, i: usize) -> usize
-    requires { i < fascnCharacters }
-    ensures { Added out.old at out.new result (codeText name.now x i) }
+    requires { i < fascn_characters }
+    ensures { Added out.old at out.new result (code_text name.now x i) }
 {
     let p = fascn::pack([x; counts::DIGITS]);
     let s = p.bytes;
@@ -144,7 +144,7 @@ fn add_code(out: &mut [u8], at: usize, name: &[u8], x: u8, i: usize) -> usize
 
 // The lines of the ten digits: each is found as the first digit.
 fn add_digit_codes(out: &mut [u8], at: usize) -> usize
-    ensures { Added out.old at out.new result (digitCodes 10) }
+    ensures { Added out.old at out.new result (digit_codes 10) }
 {
     let mut end = append::add(out, at, b"");
     for x in 0u8..10 {
@@ -156,7 +156,7 @@ fn add_digit_codes(out: &mut [u8], at: usize) -> usize
 
 // The 13 characters of figure 7, found by packing: the first digit, SS, the first FS and ES.
 pub(crate) fn add_codes(out: &mut [u8], at: usize) -> usize
-    ensures { Added out.old at out.new result codesText }
+    ensures { Added out.old at out.new result codes_text }
 {
     let digits = add_digit_codes(out, at);
     let start = add_code(out, digits, b"Start Sentinel", 0, 0);

@@ -1,10 +1,10 @@
 // The texts of what the readers of TLVs, templates, data objects and dates say.
 ghost use Rattle.std.specs.Prelude.{◌≡◌, ◌+◌, ◌*◌, ◌/◌, ◌%◌, ◌≤◌, length};
 ghost use Rattle.common.specs.Lists.{all};
-ghost use Rattle.card.specs.Tlv.{tagBytes};
-ghost use Rattle.text.specs.Hex.{hexOf};
+ghost use Rattle.card.specs.Tlv.{tag_bytes};
+ghost use Rattle.text.specs.Hex.{hex_of};
 ghost use Rattle.append.specs.Append.{Added};
-ghost use Rattle.vectors.specs.ObjectText.{placeText, nestedText, textOfHeader, headerText, templateText, partText, commaBefore, fieldText, shownText, shownTags, objectText, dateText, decimalPair, twoDigits, eightDigits, textOfReal, realText};
+ghost use Rattle.vectors.specs.ObjectText.{place_text, nested_text, text_of_header, header_text, template_text, part_text, comma_before, field_text, shown_text, shown_tags, object_text, date_text, decimal_pair, two_digits, eight_digits, text_of_real, real_text};
 
 use crate::refusal;
 use card::date::Date;
@@ -14,7 +14,7 @@ use card::{date, object, template, tlv};
 
 // The bytes of a tag, high byte first, as many as it needs.
 fn add_tag(out: &mut [u8], at: usize, tag: usize) -> usize
-    ensures { Added out.old at out.new result (hexOf (tagBytes tag)) }
+    ensures { Added out.old at out.new result (hex_of (tag_bytes tag)) }
 {
     let high = (tag / 65536 % 256) as u8;
     let middle = (tag / 256 % 256) as u8;
@@ -33,7 +33,7 @@ fn add_tag(out: &mut [u8], at: usize, tag: usize) -> usize
 
 // Where a value lies, and how long it is.
 fn add_place(out: &mut [u8], at: usize, start: u64, len: u64) -> usize
-    ensures { Added out.old at out.new result (placeText start len) }
+    ensures { Added out.old at out.new result (place_text start len) }
 {
     let head = append::add(out, at, b" at ");
     let first = append::add_decimal(out, head, start);
@@ -43,7 +43,7 @@ fn add_place(out: &mut [u8], at: usize, start: u64, len: u64) -> usize
 
 // Whether a TLV is nested, and that its place follows.
 fn add_nested(out: &mut [u8], at: usize, nested: bool) -> usize
-    ensures { Added out.old at out.new result (nestedText nested) }
+    ensures { Added out.old at out.new result (nested_text nested) }
 {
     if nested {
         append::add(out, at, b", nested, value")
@@ -54,7 +54,7 @@ fn add_nested(out: &mut [u8], at: usize, nested: bool) -> usize
 
 // What header_of says of the front of s.
 pub(crate) fn add_header(out: &mut [u8], at: usize, s: &[u8]) -> usize
-    ensures { Added out.old at out.new result (headerText s.now) }
+    ensures { Added out.old at out.new result (header_text s.now) }
 {
     match tlv::header_of(s) {
         Header::Whole {
@@ -69,7 +69,7 @@ pub(crate) fn add_header(out: &mut [u8], at: usize, s: &[u8]) -> usize
 
 // A TLV that lies whole in the bytes.
 fn add_whole(out: &mut [u8], at: usize, tag: usize, nested: bool, start: usize, len: usize) -> usize
-    ensures { Added out.old at out.new result (textOfHeader (Header.Whole tag nested start len)) }
+    ensures { Added out.old at out.new result (text_of_header (Header.Whole tag nested start len)) }
 {
     let head = append::add(out, at, b"tag ");
     let tagged = add_tag(out, head, tag);
@@ -79,7 +79,7 @@ fn add_whole(out: &mut [u8], at: usize, tag: usize, nested: bool, start: usize, 
 
 // What template says of s.
 pub(crate) fn add_template(out: &mut [u8], at: usize, s: &[u8]) -> usize
-    ensures { Added out.old at out.new result (templateText s.now) }
+    ensures { Added out.old at out.new result (template_text s.now) }
 {
     let answer = template::template(s);
     let number = answer.number();
@@ -91,7 +91,7 @@ pub(crate) fn add_template(out: &mut [u8], at: usize, s: &[u8]) -> usize
 
 // Where a part lies, or that there is none.
 fn add_part(out: &mut [u8], at: usize, p: Part) -> usize
-    ensures { Added out.old at out.new result (partText p) }
+    ensures { Added out.old at out.new result (part_text p) }
 {
     if p.len == 0 {
         return append::add(out, at, b" absent");
@@ -101,7 +101,7 @@ fn add_part(out: &mut [u8], at: usize, p: Part) -> usize
 
 // What stands between two fields, and before none the first.
 fn add_comma(out: &mut [u8], at: usize, i: usize) -> usize
-    ensures { Added out.old at out.new result (commaBefore i) }
+    ensures { Added out.old at out.new result (comma_before i) }
 {
     if i == 0 {
         append::add(out, at, b"")
@@ -119,7 +119,7 @@ fn add_field(
     i: usize,
     tag: u8,
 ) -> usize
-    ensures { Added out.old at out.new result (fieldText kind parts i tag) }
+    ensures { Added out.old at out.new result (field_text kind parts i tag) }
 {
     let name = [tag];
     let part = object::part_of(kind, parts, tag);
@@ -136,7 +136,7 @@ fn add_fields(
     parts: [Part; object::FIELDS],
     tags: &[u8],
 ) -> usize
-    ensures { Added out.old at out.new result (shownText kind parts tags.now) }
+    ensures { Added out.old at out.new result (shown_text kind parts tags.now) }
 {
     let mut end = append::add(out, at, b"");
     for i in 0..tags.len() {
@@ -145,9 +145,9 @@ fn add_fields(
     end
 }
 
-// The fields that are shown of an object: a row of tags for each kind, `shownTags` in the definitions.
+// The fields that are shown of an object: a row of tags for each kind, `shown_tags` in the definitions.
 fn add_shown(out: &mut [u8], at: usize, kind: Kind, parts: [Part; object::FIELDS]) -> usize
-    ensures { Added out.old at out.new result (shownText kind parts (shownTags kind)) }
+    ensures { Added out.old at out.new result (shown_text kind parts (shown_tags kind)) }
 {
     match kind {
         Kind::Signed => add_fields(
@@ -171,7 +171,7 @@ fn add_shown(out: &mut [u8], at: usize, kind: Kind, parts: [Part; object::FIELDS
 
 // What parse says of the object s.
 pub(crate) fn add_object(out: &mut [u8], at: usize, kind: Kind, s: &[u8]) -> usize
-    ensures { Added out.old at out.new result (objectText kind s.now) }
+    ensures { Added out.old at out.new result (object_text kind s.now) }
 {
     let o = object::parse(kind, s);
     let answer = o.answer;
@@ -185,7 +185,7 @@ pub(crate) fn add_object(out: &mut [u8], at: usize, kind: Kind, s: &[u8]) -> usi
 
 // What date::read says of the characters s.
 pub(crate) fn add_date(out: &mut [u8], at: usize, s: &[u8]) -> usize
-    ensures { Added out.old at out.new result (dateText s.now) }
+    ensures { Added out.old at out.new result (date_text s.now) }
 {
     match date::read(s) {
         Date::Real(n) => append::add_decimal(out, at, n as u64),
@@ -195,7 +195,7 @@ pub(crate) fn add_date(out: &mut [u8], at: usize, s: &[u8]) -> usize
 
 // The number that the two decimal digits of a byte spell.
 fn two_digits(x: u8) -> u32
-    ensures is { result ≡ twoDigits x }
+    ensures is { result ≡ two_digits x }
     ensures most { result ≤ 165 }
 {
     (x / 16 * 10 + x % 16) as u32
@@ -203,7 +203,7 @@ fn two_digits(x: u8) -> u32
 
 // Whether all bytes are two decimal digits.
 fn all_decimal(s: &[u8]) -> bool
-    ensures { result ≡ all (length s.now) (decimalPair s.now) }
+    ensures { result ≡ all (length s.now) (decimal_pair s.now) }
 {
     let mut ok = true;
     for i in 0..s.len() {
@@ -215,14 +215,14 @@ fn all_decimal(s: &[u8]) -> bool
 // The number that the eight digits of four bytes spell.
 fn eight_digits(s: &[u8]) -> u32
     requires { length s.now ≡ 4 }
-    ensures { result ≡ eightDigits s.now }
+    ensures { result ≡ eight_digits s.now }
 {
     ((two_digits(s[0]) * 100 + two_digits(s[1])) * 100 + two_digits(s[2])) * 100 + two_digits(s[3])
 }
 
 // `real`, or `not real`.
 fn add_real_or_not(out: &mut [u8], at: usize, real: bool) -> usize
-    ensures { Added out.old at out.new result (textOfReal real) }
+    ensures { Added out.old at out.new result (text_of_real real) }
 {
     if real {
         append::add(out, at, b"real")
@@ -233,7 +233,7 @@ fn add_real_or_not(out: &mut [u8], at: usize, real: bool) -> usize
 
 // What date::real says of the eight digits s, two to a byte.
 pub(crate) fn add_real(out: &mut [u8], at: usize, s: &[u8]) -> usize
-    ensures { Added out.old at out.new result (realText s.now) }
+    ensures { Added out.old at out.new result (real_text s.now) }
 {
     if (s.len() == 4) & all_decimal(s) {
         return add_real_or_not(out, at, date::real(eight_digits(s)));

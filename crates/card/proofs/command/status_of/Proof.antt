@@ -9,17 +9,17 @@ use borrow.Author.Tests.{eq-eqb, ne_eqb}
 use lib.Dec.{eqb}
 use lib.ListN.{length, take}
 use lib.Seq.{length-take-le}
-use Rattle.common.specs.Lists.{sameBytes}
-use Rattle.card.specs.Command.{statusOf}
+use Rattle.common.specs.Lists.{same_bytes}
+use Rattle.card.specs.Command.{status_of}
 use Rattle.card.proofs.command.status_of.Statement.{statement}
 use Rattle.card.proofs.command.status_of.Tie as tie
 
 returns : tie.Need-returns
-unfolding statusOf
+unfolding status_of
 returns c = rw (ne_eqb _ _ c.if1.true)
 
 returns-2 : tie.Need-returns-2
-unfolding statusOf
+unfolding status_of
 returns-2 c = simp (eq-eqb _ _ c.before.before.before.if1.false, sym c.before.same.ensures ∙ c.if2.true)
 
 -- the first byte by itself
@@ -36,28 +36,28 @@ slice-aggregate-same-4 c =
     one_byte first.before.before.args.s.now first.if1.false
 
 -- two bytes that are not 90 00
-not_done : (c : tie.After-same-arg2) → let s = c.before.before.before.before.before.before.args.s.now in (eqb (length s) 2 ≡ true) × (sameBytes s (0x90 ∷ 0x00 ∷ []) ≡ false)
+not_done : (c : tie.After-same-arg2) → let s = c.before.before.before.before.before.before.args.s.now in (eqb (length s) 2 ≡ true) × (same_bytes s (0x90 ∷ 0x00 ∷ []) ≡ false)
 not_done c = (eq-eqb _ _ c.before.before.before.before.if1.false, sym c.before.before.same.ensures ∙ c.before.if2.false)
 
 -- and do not begin with 61
-not_more : (c : tie.After-same-arg4) → let s = c.before.before.before.before.before.before in sameBytes (take 1 s.before.before.before.before.args.s.now) (0x61 ∷ []) ≡ false
+not_more : (c : tie.After-same-arg4) → let s = c.before.before.before.before.before.before in same_bytes (take 1 s.before.before.before.before.args.s.now) (0x61 ∷ []) ≡ false
 not_more c = sym c.before.before.same2.ensures ∙ c.before.if3.false
 
 returns-3 : tie.Need-returns-3
-unfolding statusOf
+unfolding status_of
 returns-3 c =
     let two = not_done c.before.before.before.before in
     simp (two.0, two.1, sym c.before.before.same2.ensures ∙ c.before.if3.true)
 
 returns-4 : tie.Need-returns-4
-unfolding statusOf
+unfolding status_of
 returns-4 c =
     let third = c.before.before.before.before in
     let two = not_done third.before.before.before.before in
     simp (two.0, two.1, not_more third, sym c.before.before.same3.ensures ∙ c.before.if4.true)
 
 returns-5 : tie.Need-returns-5
-unfolding statusOf
+unfolding status_of
 returns-5 c =
     let third = c.before.before.before in
     let two = not_done third.before.before.before.before in

@@ -7,16 +7,16 @@ use borrow.Author.Rules.{rules}
 use lib.Dec.{leb}
 use lib.ListN.{get_or}
 use Rattle.common.specs.Lists.{all, number}
-use Rattle.common.specs.Decimal.{isDigitAt, spelled}
-use Rattle.card.specs.Date.{dateOf}
+use Rattle.common.specs.Decimal.{is_digit_at, spelled}
+use Rattle.card.specs.Date.{date_of}
 use Rattle.common.proofs.ListsLaws.{all_more}
-use Rattle.common.proofs.DecimalLaws.{spelled-more, spelled-room}
-use Rattle.card.proofs.DateLaws.{date-is, not_eight}
+use Rattle.common.proofs.DecimalLaws.{spelled_more, spelled_room}
+use Rattle.card.proofs.DateLaws.{date_is, not_eight}
 use Rattle.card.proofs.date.read.Statement.{statement}
 use Rattle.card.proofs.date.read.Tie as tie
 
 abbrev invariant-loop : tie.invariant-loop
-invariant-loop s n₀ ok₀ i₀ n ok i = (i ≤ 8) × (n ≡ spelled i s) × (ok ≡ all i (isDigitAt s))
+invariant-loop s n₀ ok₀ i₀ n ok i = (i ≤ 8) × (n ≡ spelled i s) × (ok ≡ all i (is_digit_at s))
 
 abbrev decreases-loop : tie.decreases-loop
 decreases-loop s n₀ ok₀ i₀ n ok i = 8 - i
@@ -26,25 +26,25 @@ returns c = sym (not_eight _ c.if1.true)
 
 -- while digits are left to read, n is small
 small : (c : tie.After-shared-slice-known2 invariant-loop decreases-loop) → c.before.before.loop.n < 2 * 10 ^ 7
-small c = let at = c.before.before in spelled-room at.before.before.before.args.s.now at.loop.i 7 (omega arith) at.loop.invariant.1
+small c = let at = c.before.before in spelled_room at.before.before.before.args.s.now at.loop.i 7 (omega arith) at.loop.invariant.1
 
 loop-again : tie.Need-loop-preserved invariant-loop decreases-loop
-unfolding isDigitAt
+unfolding is_digit_at
 loop-again c =
     let at = c.before.before in
     let s = at.before.before.before.args.s.now in
     let b = get_or s at.loop.i 0 in (
       search rules,
-      spelled-more s at.loop.i at.loop.invariant.1,
-      and_assoc at.loop.ok (leb 0x30 b) (leb b 0x39) ∙ all_more (isDigitAt s) at.loop.i at.loop.invariant.2 refl,
+      spelled_more s at.loop.i at.loop.invariant.1,
+      and_assoc at.loop.ok (leb 0x30 b) (leb b 0x39) ∙ all_more (is_digit_at s) at.loop.i at.loop.invariant.2 refl,
     )
 
 -- after the loop, the two tests decide
 decided : (c : tie.After-real invariant-loop decreases-loop)
-    → let at = c.before.before in dateOf at.before.before.before.args.s.now ≡ cond (at.loop.ok && c.real.result) (0, at.loop.n) (22, 0)
+    → let at = c.before.before in date_of at.before.before.before.args.s.now ≡ cond (at.loop.ok && c.real.result) (0, at.loop.n) (22, 0)
 decided c =
     let at = c.before.before in
-    date-is at.before.before.before.args.s.now (omega arith) (omega arith) at.loop.invariant.1 at.loop.invariant.2 c.real.ensures
+    date_is at.before.before.before.args.s.now (omega arith) (omega arith) at.loop.invariant.1 at.loop.invariant.2 c.real.ensures
 
 returns-2 : tie.Need-returns-2 invariant-loop decreases-loop
 returns-2 c = rw (decided c.before, c.if2.true)

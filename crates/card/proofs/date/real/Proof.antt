@@ -7,7 +7,7 @@ use native.Mathlib.Omega.{arith}
 use borrow.Author.Rules.{rules}
 use borrow.Author.Tests.{le-leb}
 use lib.Dec.{eqb, leb}
-use Rattle.card.specs.Date.{leapYear, daysIn, realDate}
+use Rattle.card.specs.Date.{leap_year, days_in, real_date}
 use Rattle.card.proofs.date.real.Statement.{statement}
 use Rattle.card.proofs.date.real.Tie as tie
 
@@ -20,9 +20,9 @@ passed : (a b : Bool) {r : Bool} → not a ≡ false → r ≡ b → r ≡ a && 
 passed true b e f = f
 passed false b e f = absurd (false≢true (sym e))
 
-least : (y m : ℕ) → 28 ≤ daysIn y m
-unfolding daysIn
-least y m = go (eqb m 2) (leapYear y) (eqb m 4 || eqb m 6 || eqb m 9 || eqb m 11)
+least : (y m : ℕ) → 28 ≤ days_in y m
+unfolding days_in
+least y m = go (eqb m 2) (leap_year y) (eqb m 4 || eqb m 6 || eqb m 9 || eqb m 11)
   where
     go : (p q r : Bool) → 28 ≤ cond p (cond q 29 28) (cond r 30 31)
     go true true r = omega arith
@@ -34,23 +34,23 @@ abbrev first : ℕ → Bool
 first n = leb 1 (n / 10000) && leb (n / 10000) 9999 && leb 1 (n / 100 % 100) && leb (n / 100 % 100) 12 && leb 1 (n % 100)
 
 abbrev last : ℕ → Bool
-last n = leb (n % 100) (daysIn (n / 10000) (n / 100 % 100))
+last n = leb (n % 100) (days_in (n / 10000) (n / 100 % 100))
 
 returns : tie.Need-returns
-unfolding realDate
+unfolding real_date
 returns c = let n = c.before.args.n in failed (first n) (last n) c.if1.true
 
 returns-2 : tie.Need-returns-2
-unfolding realDate
+unfolding real_date
 returns-2 c =
     let n = c.before.before.args.n in
-    let m = daysIn (n / 10000) (n / 100 % 100) in
+    let m = days_in (n / 10000) (n / 100 % 100) in
     let few : n % 100 ≤ 28 = c.if2.true in
     let h : n % 100 ≤ m = le_trans few (least (n / 10000) (n / 100 % 100)) in
     passed (first n) (last n) c.before.if1.false (sym (le-leb (n % 100) m h))
 
 returns-3 : tie.Need-returns-3
-unfolding realDate
+unfolding real_date
 returns-3 c =
     let n = c.before.before.before.args.n in
     passed (first n) (last n) c.before.before.if1.false (ap (leb (n % 100)) c.days-in.ensures)

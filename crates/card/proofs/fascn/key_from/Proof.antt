@@ -7,7 +7,7 @@ use borrow.Author.Rules.{rules}
 use lib.Dec.{lit<}
 use lib.ListN.{get_or}
 use Rattle.common.specs.Lists.{number}
-use Rattle.card.specs.Fascn.{keyOf}
+use Rattle.card.specs.Fascn.{key_of}
 use Rattle.common.proofs.NumberLaws.{number_more}
 use native.Mathlib.Nat.{pow-succ', pow-le-pow_right}
 use Rattle.card.proofs.fascn.key_from.Statement.{statement}
@@ -41,7 +41,7 @@ loop-again c =
     )
 
 returns : tie.Need-returns invariant-loop decreases-loop
-unfolding keyOf
+unfolding key_of
 returns c = let e : c.before.loop.k ≡ 16 = omega arith in rw e at c.before.loop.invariant.1
 
 pub key-from-spec : {M : Type 1} → statement M

@@ -2,12 +2,12 @@
 use mathlib.Core.Path.{◌∙◌}
 use borrow.Author.Rules.{rules}
 use Rattle.common.specs.Lists.{list_of, number, written}
-use Rattle.card.specs.Fascn.{keyOf}
+use Rattle.card.specs.Fascn.{key_of}
 use Rattle.card.proofs.fascn.key_of.Statement.{statement}
 use Rattle.card.proofs.fascn.key_of.Tie as tie
 
 returns : tie.Need-returns
-unfolding keyOf number written list_of
+unfolding key_of number written list_of
 returns c = c.key-from.ensures ∙ rw c.before.before.before.copy_run.ensures
 
 pub key-of-spec : {M : Type 1} → statement M

@@ -3,14 +3,14 @@ use mathlib.Core.Path.{◌≡◌, ◌∙◌}
 use borrow.Author.Rules.{rules}
 use borrow.Author.Tests.{ne_eqb}
 use Rattle.common.specs.Lists.{all}
-use Rattle.card.specs.Fascn.{oddAt, valuesIn, unpackRefusal, unpackOf}
-use Rattle.card.proofs.FascnLaws.{unpack-is}
-use Rattle.card.proofs.CharacterLaws.{values-chars, odd-chars}
+use Rattle.card.specs.Fascn.{odd_at, values_in, unpack_refusal, unpack_of}
+use Rattle.card.proofs.FascnLaws.{unpack_is}
+use Rattle.card.proofs.CharacterLaws.{values_chars, odd_chars}
 use Rattle.card.proofs.fascn.unpack.Statement.{statement}
 use Rattle.card.proofs.fascn.unpack.Tie as tie
 
 returns : tie.Need-returns
-unfolding unpackOf unpackRefusal
+unfolding unpack_of unpack_refusal
 returns c = rw (ne_eqb _ _ c.if1.true)
 
 returns-2 : tie.Need-returns-2
@@ -24,18 +24,18 @@ returns-2 c =
     let after_chars = after-values.before.before in
     let long = after_chars.before in
     let s = long.before.before.args.s.now in
-    let odd : after-odd.all-odd.result ≡ all 40 (oddAt s) = after-odd.all-odd.ensures ∙ rw after_chars.characters-in.ensures (odd-chars s) in
-    let values : after-values.values-in.result ≡ valuesIn s = after-values.values-in.ensures ∙ rw after_chars.characters-in.ensures (values-chars s) in
+    let odd : after-odd.all-odd.result ≡ all 40 (odd_at s) = after-odd.all-odd.ensures ∙ rw after_chars.characters-in.ensures (odd_chars s) in
+    let values : after-values.values-in.result ≡ values_in s = after-values.values-in.ensures ∙ rw after_chars.characters-in.ensures (values_chars s) in
     rw (
       c.answer-for.ensures,
       odd,
       after-marks.marks-in.ensures,
       after-decimal.all-decimal.ensures,
       after_check.check-value.ensures,
-      after-digits.digits_in.ensures,
+      after-digits.digits_in_lem.ensures,
       values,
     )
-    (unpack-is s long.if1.false)
+    (unpack_is s long.if1.false)
 
 pub unpack-spec : {M : Type 1} → statement M
 unpack-spec =

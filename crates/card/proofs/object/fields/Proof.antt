@@ -5,14 +5,14 @@ use Prim.Native.Nat.{◌-◌, ◌≤◌}
 use native.Mathlib.Omega.{arith}
 use lib.Dec.{eqb}
 use lib.ListN.{length, get_or, take, replicate}
-use Rattle.card.specs.Object.{mostFields, empty, rows_of, rowField, fieldsFrom, fieldsAnswer}
+use Rattle.card.specs.Object.{most_fields, empty, rows_of, row_field, fields_from, fields_answer}
 use Rattle.card.specs.ObjectCode.{no_row}
 use Rattle.card.proofs.FieldLaws.{laid_out, row_at, Read, read_none, read_more, read_all}
 use Rattle.card.proofs.object.fields.Statement.{statement}
 use Rattle.card.proofs.object.fields.Tie as tie
 
 abbrev invariant-loop : tie.invariant-loop
-invariant-loop v base n rows parts₀ ok₀ at₀ i₀ parts ok at i = (i ≤ n) × (n ≤ mostFields) × Read v base (take n rows) i parts ok at
+invariant-loop v base n rows parts₀ ok₀ at₀ i₀ parts ok at i = (i ≤ n) × (n ≤ most_fields) × Read v base (take n rows) i parts ok at
 
 abbrev decreases-loop : tie.decreases-loop
 decreases-loop v base n rows parts₀ ok₀ at₀ i₀ parts ok at i = n - i
@@ -26,7 +26,7 @@ loop-again c =
     let i = at.loop.i in
     let f = c.before.before.next_field.result in
     let r = get_or l.result.rows i no_row in
-    let q : f ≡ rowField a.v.now a.base r at.loop.at = c.before.before.next_field.ensures.0 in (
+    let q : f ≡ row_field a.v.now a.base r at.loop.at = c.before.before.next_field.ensures.0 in (
       omega arith,
       at.loop.invariant.1,
       read_more r f at.loop.invariant.2 (omega arith) (row_at l.result.rows l.result.n i no_row laid.0 laid.1 (omega arith)) q c.before.before.next_field.ensures.1,
@@ -34,8 +34,8 @@ loop-again c =
 
 -- after the loop, the two tests decide
 decided : (c : tie.After-loop invariant-loop decreases-loop) → let at = c.before in
-    fieldsAnswer (fieldsFrom c.before.before.before.before.before.args.v.now c.before.before.before.before.before.args.base (rows_of c.before.before.before.before.before.args.kind) 0)
-    ≡ cond (at.loop.ok && eqb at.loop.at (length c.before.before.before.before.before.args.v.now)) (0, at.loop.parts) (20, replicate mostFields empty)
+    fields_answer (fields_from c.before.before.before.before.before.args.v.now c.before.before.before.before.before.args.base (rows_of c.before.before.before.before.before.args.kind) 0)
+    ≡ cond (at.loop.ok && eqb at.loop.at (length c.before.before.before.before.before.args.v.now)) (0, at.loop.parts) (20, replicate most_fields empty)
 decided c =
     let l = c.before.before.before.layout_of in
     let laid = laid_out c.before.before.before.before.before.args.kind l.ensures in

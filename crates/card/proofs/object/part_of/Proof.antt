@@ -6,14 +6,14 @@ use native.Mathlib.Numerals.{add-one}
 use native.Mathlib.Omega.{arith}
 use lib.ListN.{length, get_or, take, drop, drop_of_length-le}
 use lib.Seq.{drop-cons}
-use Rattle.card.specs.Object.{mostFields, empty, partIn}
+use Rattle.card.specs.Object.{most_fields, empty, part_in}
 use Rattle.card.specs.ObjectCode.{no_row}
-use Rattle.card.proofs.FieldLaws.{laid_out, row_at, part_none, part-here, part_end}
+use Rattle.card.proofs.FieldLaws.{laid_out, row_at, part_none, part_here, part_end}
 use Rattle.card.proofs.object.part_of.Statement.{statement}
 use Rattle.card.proofs.object.part_of.Tie as tie
 
 abbrev invariant-loop : tie.invariant-loop
-invariant-loop tag parts n rows i₀ i = (i ≤ n) × (n ≤ mostFields) × (partIn (take n rows) parts tag ≡ partIn (drop i (take n rows)) (drop i parts) tag)
+invariant-loop tag parts n rows i₀ i = (i ≤ n) × (n ≤ most_fields) × (part_in (take n rows) parts tag ≡ part_in (drop i (take n rows)) (drop i parts) tag)
 
 abbrev decreases-loop : tie.decreases-loop
 decreases-loop tag parts n rows i₀ i = n - i
@@ -33,7 +33,7 @@ returns : tie.Need-returns invariant-loop decreases-loop
 returns c =
     let at = c.before.before.before.before.before in
     let l = at.before.before.layout_of in
-    sym (rw (← (laid_out _ l.ensures).0) (at.loop.invariant.2 ∙ part-here _ _ at.loop.i _ _ _ (row_is c.before.before.before) (part-is c.before.before.before) c.before.if1.true))
+    sym (rw (← (laid_out _ l.ensures).0) (at.loop.invariant.2 ∙ part_here _ _ at.loop.i _ _ _ (row_is c.before.before.before) (part-is c.before.before.before) c.before.if1.true))
 
 loop-again : tie.Need-loop-preserved invariant-loop decreases-loop
 loop-again c =

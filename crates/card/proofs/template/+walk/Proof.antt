@@ -9,11 +9,11 @@ use borrow.Author.Tests.{not-false, not-true}
 use borrow.Fn.Kinds.{In}
 use borrow.Fn.PlainCycle.{Measures, is, falls, and}
 use lib.ListN.{length, drop}
-use Rattle.card.specs.Tlv.{headerOf}
+use Rattle.card.specs.Tlv.{header_of}
 use Rattle.card.specs.TemplateCode.{walked}
 use Rattle.card.specs.declared.tlv.Header.TheVariants.{Whole}
-use Rattle.card.proofs.TlvLaws.{place_inside, header-start, known}
-use Rattle.card.proofs.TemplateLaws.{walk_end, walk-deep, walk-bad, walk-past, walk-broken, plain_passes, nested-passes, nested-fails}
+use Rattle.card.proofs.TlvLaws.{place_inside, header_start, known}
+use Rattle.card.proofs.TemplateLaws.{walk_end, walk_deep, walk_bad, walk_past, walk_broken, plain_passes, nested_passes, nested_fails}
 use Rattle.card.proofs.template.walk.Reads as walk
 use Rattle.card.proofs.template.walk.Kinds as walk-kinds
 use Rattle.card.proofs.template.+walk.Lts-walk as walk-lts
@@ -49,7 +49,7 @@ Met t =
     decreases-loop
 
 met : (t : ℕ) (c : Met t) → let x = c.before.tag.given.0 in let at = c.before.before.before.before.before.before.before in
-    Whole x.0 x.1.0 x.1.1.0 x.1.1.1.0 ≡ headerOf (drop at.loop.at at.before.before.args.s.now)
+    Whole x.0 x.1.0 x.1.1.0 x.1.1.1.0 ≡ header_of (drop at.loop.at at.before.before.args.s.now)
 met t c = known c.before.tag.given.1 c.before.before.before.next-header.ensures c.before.before.before.before.after.ensures
 
 -- it ends within s, after more than no bytes
@@ -63,7 +63,7 @@ met-end t c =
 met_start : (t : ℕ) (c : Met t) → 0 < c.before.tag.given.0.1.1.0
 met_start t c =
     let at = c.before.before.before.before.before.before.before in
-    header-start (drop at.loop.at at.before.before.args.s.now) (met t c)
+    header_start (drop at.loop.at at.before.before.args.s.now) (met t c)
 
 pub +walk-spec : {M : Type 1} → statement M
 +walk-spec =
@@ -75,14 +75,14 @@ pub +walk-spec : {M : Type 1} → statement M
     invariant-loop
     decreases-loop
     (λ c. (omega arith, refl))
-    (λ c. let at = c.before.before in sym (at.loop.invariant.1 ∙ walk-deep at.before.before.args.s.now _ _ _ c.before.loop-test.true c.if1.true))
+    (λ c. let at = c.before.before in sym (at.loop.invariant.1 ∙ walk_deep at.before.before.args.s.now _ _ _ c.before.loop-test.true c.if1.true))
     (λ c κs. search rules)
     (λ c κs. search rules)
     (λ c. search rules)
     (λ c. search rules)
     (λ c.
     let at = c.before.before.before.before.before.before in
-    sym (at.loop.invariant.1 ∙ walk-bad at.before.before.args.s.now _ _ _ c.before.before.before.before.before.loop-test.true
+    sym (at.loop.invariant.1 ∙ walk_bad at.before.before.args.s.now _ _ _ c.before.before.before.before.before.loop-test.true
     c.before.before.before.before.if1.false
     (known c.enum_told.given.1 c.before.before.next-header.ensures c.before.before.before.after.ensures)))
     (λ c. omega (arith, met-end t c))
@@ -95,17 +95,17 @@ pub +walk-spec : {M : Type 1} → statement M
     (λ c.
     let m = c.before.before.before.before.before in
     let at = m.before.before.before.before.before.before.before in
-    sym (at.loop.invariant.1 ∙ walk-broken at.before.before.args.s.now _ _ _ m.before.before.before.before.before.before.loop-test.true
+    sym (at.loop.invariant.1 ∙ walk_broken at.before.before.args.s.now _ _ _ m.before.before.before.before.before.before.loop-test.true
     m.before.before.before.before.before.if1.false (met t m)
-    (nested-fails _ _ c.before.before.before.before.if2.true c.before.before.walk.ensures (not-true _ c.if3.true))))
+    (nested_fails _ _ c.before.before.before.before.if2.true c.before.before.walk.ensures (not-true _ c.if3.true))))
     (λ c κs. search rules)
     (λ c. omega (arith, met_start t c.before.before, met-end t c.before.before))
     (λ c.
     let m = c.before.before in
     let at = m.before.before.before.before.before.before.before in (
       omega (arith, met-end t m),
-      at.loop.invariant.1 ∙ rw c.note.ensures (walk-past at.before.before.args.s.now _ _ _ m.before.before.before.before.before.before.loop-test.true
+      at.loop.invariant.1 ∙ rw c.note.ensures (walk_past at.before.before.args.s.now _ _ _ m.before.before.before.before.before.before.loop-test.true
           m.before.before.before.before.before.if1.false (met t m)
-          (⊎_elim (λ w. nested-passes _ _ w.0.taken w.2.ensures (not-false _ w.4.left)) (λ w. plain_passes _ _ w.left) c.before.if2.branch)),
+          (⊎_elim (λ w. nested_passes _ _ w.0.taken w.2.ensures (not-false _ w.4.left)) (λ w. plain_passes _ _ w.left) c.before.if2.branch)),
     ))
     (λ c. let at = c.before in sym (at.loop.invariant.1 ∙ walk_end at.before.before.args.s.now _ _ at.loop.at (omega arith)))

@@ -6,30 +6,30 @@ use native.Mathlib.Omega.{arith}
 use borrow.Author.Rules.{rules}
 use borrow.Author.Tests.{not-true, not-false}
 use Rattle.common.specs.Lists.{number, passing}
-use Rattle.common.specs.Decimal.{isDigitAt, spelled}
-use Rattle.common.proofs.DecimalLaws.{spelled-more, spelled-room}
-use Rattle.ccl.specs.VisualCode.{leadingDigits}
-use Rattle.common.proofs.PassingLaws.{passing-more, passing-stop}
+use Rattle.common.specs.Decimal.{is_digit_at, spelled}
+use Rattle.common.proofs.DecimalLaws.{spelled_more, spelled_room}
+use Rattle.ccl.specs.VisualCode.{leading_digits}
+use Rattle.common.proofs.PassingLaws.{passing_more, passing_stop}
 use Rattle.ccl.proofs.VisualCodeLaws.{leading_end}
 use Rattle.ccl.proofs.cin.leading_digits.Statement.{statement}
 use Rattle.ccl.proofs.cin.leading_digits.Tie as tie
 
 abbrev invariant-loop : tie.invariant-loop
-invariant-loop s most n₀ k₀ n k = (k ≤ most) × (n ≡ spelled k s) × (passing k (isDigitAt s) ≡ k)
+invariant-loop s most n₀ k₀ n k = (k ≤ most) × (n ≡ spelled k s) × (passing k (is_digit_at s) ≡ k)
 
 abbrev decreases-loop : tie.decreases-loop
 decreases-loop s most n₀ k₀ n k = most - k
 
 returns : tie.Need-returns invariant-loop decreases-loop
-unfolding leadingDigits isDigitAt
+unfolding leading_digits is_digit_at
 returns c =
     let at = c.before.before.before in
     let s = at.before.before.before.args.s.now in
-    (sym (passing-stop (isDigitAt s) at.loop.k 11 (omega (arith, at.before.least.ensures.1)) at.loop.invariant.2 (not-true _ c.if1.true)), at.loop.invariant.1)
+    (sym (passing_stop (is_digit_at s) at.loop.k 11 (omega (arith, at.before.least.ensures.1)) at.loop.invariant.2 (not-true _ c.if1.true)), at.loop.invariant.1)
 
 -- while digits are left to read, n is small
 small : (c : tie.At-loop invariant-loop decreases-loop) → c.loop.k ≤ 10 → c.loop.n < 2 * 10 ^ 10
-small c h = spelled-room c.before.before.before.args.s.now c.loop.k 10 h c.loop.invariant.1
+small c h = spelled_room c.before.before.before.args.s.now c.loop.k 10 h c.loop.invariant.1
 
 mul-n : tie.Need-overflow-mul-n invariant-loop decreases-loop
 mul-n c = omega (arith, small c.before.before.before (omega (arith, c.before.before.before.before.least.ensures.1)))
@@ -38,13 +38,13 @@ add-n : tie.Need-overflow-add-n invariant-loop decreases-loop
 add-n c = omega (arith, small c.before.before.before (omega (arith, c.before.before.before.before.least.ensures.1)))
 
 loop-again : tie.Need-loop-preserved invariant-loop decreases-loop
-unfolding isDigitAt
+unfolding is_digit_at
 loop-again c =
     let at = c.before.before.before in
     let s = at.before.before.before.args.s.now in (
       search rules,
-      spelled-more s at.loop.k at.loop.invariant.1,
-      passing-more (isDigitAt s) at.loop.k at.loop.invariant.2 (not-false _ c.if1.false),
+      spelled_more s at.loop.k at.loop.invariant.1,
+      passing_more (is_digit_at s) at.loop.k at.loop.invariant.2 (not-false _ c.if1.false),
     )
 
 returns-2 : tie.Need-returns-2 invariant-loop decreases-loop

@@ -7,20 +7,20 @@ use borrow.Author.Tests.{eqb-true}
 use lib.Dec.{eqb, leb}
 use lib.ListN.{length}
 use Rattle.common.proofs.TestLaws.{and_right}
-use Rattle.ccl.specs.Cin.{cinDigits, cinOf, entry_of}
-use Rattle.ccl.proofs.VisualCodeLaws.{entry-test}
+use Rattle.ccl.specs.Cin.{cin_digits, cin_of, entry_of}
+use Rattle.ccl.proofs.VisualCodeLaws.{entry_test}
 use Rattle.ccl.proofs.cin.read_entry.Statement.{statement}
 use Rattle.ccl.proofs.cin.read_entry.Tie as tie
 
 -- the tests decide
 decided : (c : tie.After-leading-digits) → let n = c.leading-digits.result.count in let s = c.before.before.args.typed.now in
-    cinDigits s ≡ leb 1 n && leb n 10 && eqb n (length s)
+    cin_digits s ≡ leb 1 n && leb n 10 && eqb n (length s)
 decided c =
     let s = c.before.before.args.typed.now in
-    sym (ap (λ (n : ℕ). leb 1 n && leb n 10 && eqb n (length s)) c.leading-digits.ensures.0 ∙ entry-test s)
+    sym (ap (λ (n : ℕ). leb 1 n && leb n 10 && eqb n (length s)) c.leading-digits.ensures.0 ∙ entry_test s)
 
 returns : tie.Need-returns
-unfolding entry_of cinOf
+unfolding entry_of cin_of
 returns c =
     let at = c.before in
     let s = at.before.before.args.typed.now in

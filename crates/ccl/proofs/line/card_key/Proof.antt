@@ -3,28 +3,28 @@ use mathlib.Core.Path.{◌≡◌, sym, ◌∙◌}
 use native.Mathlib.Omega.{arith}
 use borrow.Author.Rules.{rules}
 use Rattle.common.specs.Lists.{list_of}
-use Rattle.text.proofs.FormLaws.{between-at}
-use Rattle.common.specs.Decimal.{digitOf}
-use Rattle.ccl.specs.Line.{cardText, goodCard, cardOf}
+use Rattle.text.proofs.FormLaws.{between_at_lem}
+use Rattle.common.specs.Decimal.{digit_of}
+use Rattle.ccl.specs.Line.{card_text, good_card, card_of}
 use Rattle.ccl.proofs.line.card_key.Statement.{statement}
 use Rattle.ccl.proofs.line.card_key.Tie as tie
 
-good-is : (c : tie.After-between) → goodCard c.before.before.before.before.args.s.now ≡ c.between.result
-unfolding goodCard cardText list_of digitOf
-good-is c = sym c.between.ensures
+good_is : (c : tie.After-between) → good_card c.before.before.before.before.args.s.now ≡ c.between.result
+unfolding good_card card_text list_of digit_of
+good_is c = sym c.between.ensures
 
 line-key-requires : tie.Need-line-key-requires
 line-key-requires c κs =
     let p = c.before in
-    omega (arith, (between-at _ _ p.before.before.before.before.args.s.now (sym p.between.ensures ∙ c.if1.true)).0)
+    omega (arith, (between_at_lem _ _ p.before.before.before.before.args.s.now (sym p.between.ensures ∙ c.if1.true)).0)
 
 returns : tie.Need-returns
-unfolding cardOf
-returns c = rw (good-is c.before.before, c.before.if1.true, c.line-key.ensures)
+unfolding card_of
+returns c = rw (good_is c.before.before, c.before.if1.true, c.line_key_lem.ensures)
 
 returns-2 : tie.Need-returns-2
-unfolding cardOf
-returns-2 c = rw (good-is c.before, c.if1.false)
+unfolding card_of
+returns-2 c = rw (good_is c.before, c.if1.false)
 
 pub card-key-spec : {M : Type 1} → statement M
 card-key-spec =

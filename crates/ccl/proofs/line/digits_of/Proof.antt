@@ -8,14 +8,14 @@ use native.Mathlib.Omega.{arith}
 use borrow.Author.Rules.{rules}
 use lib.ListN.{length, get_or, set, length-set}
 use lib.Seq.{get_or-set_same, get_or-set_other}
-use Rattle.common.proofs.ListsLaws.{listOf-is}
-use Rattle.common.specs.Decimal.{digitOf, digitsOf}
+use Rattle.common.proofs.ListsLaws.{list_of_is}
+use Rattle.common.specs.Decimal.{digit_of, digits_of}
 use Rattle.ccl.proofs.line.digits_of.Statement.{statement}
 use Rattle.ccl.proofs.line.digits_of.Tie as tie
 
 abbrev invariant-loop : tie.invariant-loop
 invariant-loop d₀ rest₀ k₀ d rest k =
-    (k ≤ 16) × (rest ≡ rest₀ / 10 ^ (16 - k)) × (length d ≡ 16) × ((i : ℕ) → k ≤ i → i < 16 → get_or d i 0 ≡ digitOf 16 rest₀ i)
+    (k ≤ 16) × (rest ≡ rest₀ / 10 ^ (16 - k)) × (length d ≡ 16) × ((i : ℕ) → k ≤ i → i < 16 → get_or d i 0 ≡ digit_of 16 rest₀ i)
 
 abbrev decreases-loop : tie.decreases-loop
 decreases-loop d₀ rest₀ k₀ d rest k = k
@@ -28,9 +28,9 @@ shorter : (key rest k : ℕ) → 0 < k → k ≤ 16 → rest ≡ key / 10 ^ (16 
 shorter key rest k p h e = let m : 16 - (k - 1) ≡ suc (16 - k) = omega arith in rw (m, pow-suc, e, div-div-eq-div-mul)
 
 -- the digits from place k - 1 on
-further : (d : List ℕ) (key rest k : ℕ) → 0 < k → k ≤ 16 → rest ≡ key / 10 ^ (16 - k) → length d ≡ 16 → ((i : ℕ) → k ≤ i → i < 16 → get_or d i 0 ≡ digitOf 16 key i)
-    → (i : ℕ) → k - 1 ≤ i → i < 16 → get_or (set d (k - 1) (48 + rest % 10)) i 0 ≡ digitOf 16 key i
-unfolding digitOf
+further : (d : List ℕ) (key rest k : ℕ) → 0 < k → k ≤ 16 → rest ≡ key / 10 ^ (16 - k) → length d ≡ 16 → ((i : ℕ) → k ≤ i → i < 16 → get_or d i 0 ≡ digit_of 16 key i)
+    → (i : ℕ) → k - 1 ≤ i → i < 16 → get_or (set d (k - 1) (48 + rest % 10)) i 0 ≡ digit_of 16 key i
+unfolding digit_of
 further d key rest k p h e n f i a b =
     ⊎_elim
     (λ (q : k - 1 ≡ i). let m : 15 - i ≡ 16 - k = omega arith in rw (q, m, e) (get_or-set_same d i (48 + key / 10 ^ (16 - k) % 10) 0 (omega arith)))
@@ -48,10 +48,10 @@ loop-again c =
     )
 
 returns : tie.Need-returns invariant-loop decreases-loop
-unfolding digitsOf
+unfolding digits_of
 returns c =
     let l = c.before.loop in
-    sym (listOf-is 16 (digitOf 16 c.before.before.args.key.0) l.d l.invariant.2 (λ i b. sym (l.invariant.3 i (omega arith) b)))
+    sym (list_of_is 16 (digit_of 16 c.before.before.args.key.0) l.d l.invariant.2 (λ i b. sym (l.invariant.3 i (omega arith) b)))
 
 pub digits-of-spec : {M : Type 1} → statement M
 digits-of-spec =

@@ -1,13 +1,13 @@
 -- `ccl::line::line_of` meets its contract: with the digits, both are the same list. Assumes nothing.
 use borrow.Author.Rules.{rules}
 use Rattle.common.specs.Lists.{list_of}
-use Rattle.common.specs.Decimal.{digitsOf}
-use Rattle.ccl.specs.Line.{line_of, cardText}
+use Rattle.common.specs.Decimal.{digits_of}
+use Rattle.ccl.specs.Line.{line_of, card_text}
 use Rattle.ccl.proofs.line.line_of.Statement.{statement}
 use Rattle.ccl.proofs.line.line_of.Tie as tie
 
 returns : tie.Need-returns
-unfolding line_of cardText digitsOf list_of
+unfolding line_of card_text digits_of list_of
 returns c = rw c.digits_of.ensures
 
 pub line-of-spec : {M : Type 1} → statement M

@@ -2,12 +2,12 @@
 use mathlib.Core.Path.{refl}
 use borrow.Author.Rules.{rules}
 use Rattle.common.specs.Lists.{list_of, slice_of}
-use Rattle.ccl.specs.Line.{lineDigits}
+use Rattle.ccl.specs.Line.{line_digits}
 use Rattle.ccl.proofs.line.line_values.Statement.{statement}
 use Rattle.ccl.proofs.line.line_values.Tie as tie
 
 returns : tie.Need-returns
-unfolding lineDigits slice_of list_of
+unfolding line_digits slice_of list_of
 returns c = refl
 
 pub line-values-spec : {M : Type 1} → statement M

@@ -5,28 +5,28 @@ use native.Mathlib.Omega.{arith}
 use borrow.Author.Rules.{rules}
 use lib.ListN.{length, take}
 use lib.Seq.{take-length}
-use Rattle.common.specs.Lists.{overFront}
+use Rattle.common.specs.Lists.{over_front}
 use Rattle.common.proofs.ListsLaws.{length_front}
 use Rattle.ccl.specs.ListText.{lines_of}
-use Rattle.ccl.proofs.LinesLaws.{length-first, line-over}
+use Rattle.ccl.proofs.LinesLaws.{length_first, line_over}
 use Rattle.ccl.proofs.list.put_lines.Statement.{statement}
 use Rattle.ccl.proofs.list.put_lines.Tie as tie
 
 abbrev invariant-loop : tie.invariant-loop
-invariant-loop keys out₀ i₀ i-end out i = (i ≤ length keys) × (i-end ≡ length keys) × (out ≡ overFront (lines_of (take i keys)) out₀)
+invariant-loop keys out₀ i₀ i-end out i = (i ≤ length keys) × (i-end ≡ length keys) × (out ≡ over_front (lines_of (take i keys)) out₀)
 
 abbrev decreases-loop : tie.decreases-loop
 decreases-loop keys out₀ i₀ i-end out i = length keys - i
 
 loop-holds : tie.Need-loop-init invariant-loop decreases-loop
-unfolding lines_of overFront
+unfolding lines_of over_front
 loop-holds c = (search rules, refl, refl)
 
 length-out : (c : tie.At-loop invariant-loop decreases-loop) → length c.loop.out ≡ length c.before.before.before.args.out.now
 length-out c =
     let a = c.before.before.before.args in
     ap length c.loop.invariant.2
-    ∙ length_front (lines_of (take c.loop.i a.keys.now)) a.out.now (rw (length-first a.keys.now c.loop.i c.loop.invariant.0) (omega arith))
+    ∙ length_front (lines_of (take c.loop.i a.keys.now)) a.out.now (rw (length_first a.keys.now c.loop.i c.loop.invariant.0) (omega arith))
 
 loop-again : tie.Need-loop-preserved invariant-loop decreases-loop
 loop-again c =
@@ -35,7 +35,7 @@ loop-again c =
     let a = at.before.before.before.args in (
       search rules,
       at.loop.invariant.1,
-      put.store.ensures ∙ line-over a.keys.now a.out.now at.loop.i (omega arith) (omega arith) at.loop.invariant.2 put.before.before.before.Line-of.ensures,
+      put.store.ensures ∙ line_over a.keys.now a.out.now at.loop.i (omega arith) (omega arith) at.loop.invariant.2 put.before.before.before.Line-of.ensures,
     )
 
 returns : tie.Need-returns invariant-loop decreases-loop

@@ -5,28 +5,28 @@ use borrow.Author.Rules.{rules}
 use borrow.Author.Tests.{lt-ltb, le-ltb}
 use lib.Dec.{ltb}
 use lib.ListN.{length}
-use Rattle.ccl.specs.Merge.{merged, mergeRefusal, mergeOf, mergedAfter}
+use Rattle.ccl.specs.Merge.{merged, merge_refusal, merge_of, merged_after}
 use Rattle.ccl.proofs.merge.merge.Statement.{statement}
 use Rattle.ccl.proofs.merge.merge.Tie as tie
 
 -- the refusal by what the code tested
 refusal_is : (c : tie.After-ascends2)
     → let a = c.before.before.before.before.before.args in
-    mergeRefusal a.a.now a.b.now (length a.out.now)
+    merge_refusal a.a.now a.b.now (length a.out.now)
     ≡ cond (not (c.before.ascends.result && c.ascends2.result)) 25 (cond (ltb (length a.out.now) (length (merged a.a.now a.b.now))) 26 0)
-unfolding mergeRefusal
+unfolding merge_refusal
 refusal_is c = rw (← c.before.ascends.ensures, ← c.ascends2.ensures)
 
 returns : tie.Need-returns
-unfolding mergeOf mergedAfter
+unfolding merge_of merged_after
 returns c = rw (refusal_is c.before, c.if1.true) (refl, refl)
 
 returns-2 : tie.Need-returns-2
-unfolding mergeOf mergedAfter
+unfolding merge_of merged_after
 returns-2 c = rw (refusal_is c.before.before.before, c.before.before.if1.false, ← c.before.merged-count.ensures, lt-ltb _ _ c.if2.true) (refl, refl)
 
 returns-3 : tie.Need-returns-3
-unfolding mergeOf mergedAfter
+unfolding merge_of merged_after
 returns-3 c =
     let put = c.before.before in
     let at = put.before.before in

@@ -5,9 +5,9 @@ use mathlib.Core.Logic.{⊎_elim}
 use Prim.Native.Nat.{◌+◌, ◌-◌, ◌<◌}
 use borrow.Author.Rules.{rules}
 use lib.ListN.{length, get_or}
-use Rattle.common.proofs.LoopLaws.{WrittenSoFar, writing-none, writing-front}
+use Rattle.common.proofs.LoopLaws.{WrittenSoFar, writing_none, writing_front}
 use Rattle.ccl.specs.Merge.{merged}
-use Rattle.ccl.proofs.MergeCodeLaws.{Merging, left-of-both, some_turn, merging-none, turn-first, turn-second, merging-end, merging-whole}
+use Rattle.ccl.proofs.MergeCodeLaws.{Merging, left_of_both, some_turn, merging_none, turn_first, turn_second, merging_end, merging_whole}
 use Rattle.ccl.proofs.merge.put_merged.Statement.{statement}
 use Rattle.ccl.proofs.merge.put_merged.Tie as tie
 
@@ -24,7 +24,7 @@ keys-left : (c : tie.In-loop invariant-loop decreases-loop)
     (at.i < length a.a.now) × (at.j < length a.b.now) × (at.k < length (merged a.a.now a.b.now))
 keys-left c =
     let a = c.before.before.before.before.before.args in
-    let b = left-of-both a.a.now a.b.now _ _ c.loop-test.true in
+    let b = left_of_both a.a.now a.b.now _ _ c.loop-test.true in
     (b.0, b.1, some_turn c.before.loop.invariant.0 c.loop-test.true)
 
 loop-again : tie.Need-loop-preserved invariant-loop decreases-loop
@@ -32,8 +32,8 @@ loop-again c =
     let at = c.before.before.before in
     let m = at.before.loop in
     ⊎_elim
-    (λ w. let t = turn-first m.invariant.0 at.loop-test.true w.0.taken in rw (w.1, w.2, w.3) (t.so_far, writing-front m.invariant.1 t.within t.next))
-    (λ w. let t = turn-second m.invariant.0 at.loop-test.true w.0.left w.1.ensures.0 in rw (w.2, w.3, w.4) (t.so_far, writing-front m.invariant.1 t.within t.next))
+    (λ w. let t = turn_first m.invariant.0 at.loop-test.true w.0.taken in rw (w.1, w.2, w.3) (t.so_far, writing_front m.invariant.1 t.within t.next))
+    (λ w. let t = turn_second m.invariant.0 at.loop-test.true w.0.left w.1.ensures.0 in rw (w.2, w.3, w.4) (t.so_far, writing_front m.invariant.1 t.within t.next))
     c.if1.branch
 
 -- what is left of the two is left of the merged list
@@ -41,20 +41,20 @@ end : (c : tie.After-loop invariant-loop decreases-loop)
     → let a = c.before.before.before.before.before.args in
     let at = c.before.loop in
     at.k + (length a.a.now - at.i) + (length a.b.now - at.j) ≡ length (merged a.a.now a.b.now)
-end c = (merging-end c.before.loop.invariant.0 c.loop-test.false).0
+end c = (merging_end c.before.loop.invariant.0 c.loop-test.false).0
 
 returns : tie.Need-returns invariant-loop decreases-loop
 returns c =
     let second = c.before.before in
     let first = second.before.before.before.before in
     let at = first.before.before in
-    merging-whole at.before.loop.invariant.0 at.loop-test.false at.before.loop.invariant.1 first.store-rest.ensures second.store-rest2.ensures
+    merging_whole at.before.loop.invariant.0 at.loop-test.false at.before.loop.invariant.1 first.store-rest.ensures second.store-rest2.ensures
 
 pub put-merged-spec : {M : Type 1} → statement M
 put-merged-spec =
     tie.close
     (tie.spec
-    invariant-loop decreases-loop (λ c. (merging-none, writing-none (search rules))) (λ c. search (rules, keys-left c)) (λ c. (keys-left c.before).0) (λ c. search (rules, keys-left c.before)) (λ c. (keys-left c.before.before).1)
+    invariant-loop decreases-loop (λ c. (merging_none, writing_none (search rules))) (λ c. search (rules, keys-left c)) (λ c. (keys-left c.before).0) (λ c. search (rules, keys-left c.before)) (λ c. (keys-left c.before.before).1)
     (λ c. search (rules, keys-left c.before.before.before)) (λ c. search (rules, keys-left c.before.before.before)) (λ c. search (rules, keys-left c.before.before.before))
     (λ c. search (rules, keys-left c.before.before.before)) (λ c. search (rules, keys-left c.before.before.before)) (λ c κs. search rules)
     (λ c. search (rules, keys-left c.before.before.before.before)) (λ c. search (rules, keys-left c.before.before.before.before))

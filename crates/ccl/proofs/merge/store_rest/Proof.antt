@@ -3,7 +3,7 @@ use mathlib.Core.Path.{refl}
 use Prim.Native.Nat.{◌+◌, ◌-◌}
 use borrow.Author.Rules.{rules}
 use lib.ListN.{length, get_or}
-use Rattle.common.proofs.LoopLaws.{WrittenSoFar, writing-none, writing_more, writing-end}
+use Rattle.common.proofs.LoopLaws.{WrittenSoFar, writing_none, writing_more, writing_end}
 use Rattle.ccl.proofs.merge.store_rest.Statement.{statement}
 use Rattle.ccl.proofs.merge.store_rest.Tie as tie
 
@@ -20,5 +20,5 @@ pub store-rest-spec : {M : Type 1} → statement M
 store-rest-spec =
     tie.close
     (tie.spec
-    invariant-loop decreases-loop (λ c. search rules) (λ c. writing-none (search rules)) (λ c. search rules) (λ c. search rules) (λ c. search rules) (λ c. search rules)
-    (λ c. search rules) (λ c. search rules) (λ c. search rules) (λ c. search rules) loop-again (λ c. search rules) (λ c. writing-end c.before.loop.invariant (search rules)))
+    invariant-loop decreases-loop (λ c. search rules) (λ c. writing_none (search rules)) (λ c. search rules) (λ c. search rules) (λ c. search rules) (λ c. search rules)
+    (λ c. search rules) (λ c. search rules) (λ c. search rules) (λ c. search rules) loop-again (λ c. search rules) (λ c. writing_end c.before.loop.invariant (search rules)))

@@ -2,7 +2,7 @@
 use mathlib.Core.Path.{◌∙◌}
 use borrow.Author.Rules.{rules}
 use Rattle.ccl.specs.Visual.{typed_of}
-use Rattle.ccl.proofs.CinLaws.{entry-typed, entry-refused}
+use Rattle.ccl.proofs.CinLaws.{entry_typed, entry_refused}
 use Rattle.ccl.proofs.visual.look_up.Statement.{statement}
 use Rattle.ccl.proofs.visual.look_up.Tie as tie
 
@@ -11,12 +11,12 @@ unfolding typed_of
 returns c =
     let a = c.before.before.before.before.before.before.before.before.args in
     let told = c.before.before.before.cin.given in
-    let e = entry-typed a.typed.now _ told.0.0 told.1 c.before.before.before.before.before.read-entry.ensures in
+    let e = entry_typed a.typed.now _ told.0.0 told.1 c.before.before.before.before.before.read-entry.ensures in
     rw (e.0, e.1) (c.answered.ensures ∙ c.before.listed.ensures)
 
 returns-2 : tie.Need-returns-2
 unfolding typed_of
-returns-2 c = rw (entry-refused c.before.before.before.before.before.args.typed.now _ c.enum_told.given.1 c.before.before.read-entry.ensures)
+returns-2 c = rw (entry_refused c.before.before.before.before.before.args.typed.now _ c.enum_told.given.1 c.before.before.read-entry.ensures)
 
 pub look-up-spec : {M : Type 1} → statement M
 look-up-spec =

@@ -5,7 +5,7 @@ use Prim.Native.Nat.{◌+◌, ◌-◌}
 use borrow.Author.Rules.{rules}
 use lib.Dec.{eqb}
 use lib.ListN.{get_or}
-use Rattle.common.proofs.LoopLaws.{TestedSoFar, testing-none, testing-more, testing-end}
+use Rattle.common.proofs.LoopLaws.{TestedSoFar, testing_none, testing_more, testing_end}
 use Rattle.common.proofs.slice.none_of.Statement.{statement}
 use Rattle.common.proofs.slice.none_of.Tie as tie
 
@@ -19,5 +19,5 @@ pub none-of-spec : {M : Type 1} → statement M
 none-of-spec =
     tie.close
     (tie.spec
-    invariant-loop decreases-loop (λ c. testing-none) (λ c. search rules) (λ c. search rules) (λ c. search rules) (λ c. search rules)
-    (λ c. testing-more c.before.before.loop.invariant (search rules) refl) (λ c. testing-end c.before.loop.invariant (search rules)))
+    invariant-loop decreases-loop (λ c. testing_none) (λ c. search rules) (λ c. search rules) (λ c. search rules) (λ c. search rules)
+    (λ c. testing_more c.before.before.loop.invariant (search rules) refl) (λ c. testing_end c.before.loop.invariant (search rules)))

@@ -12,7 +12,7 @@ use lib.Dec.{eqb}
 use lib.ListN.{length, get_or, drop}
 use lib.Seq.{drop-cons}
 use Rattle.common.specs.Lists.{all}
-use Rattle.common.proofs.ListsLaws.{all-at}
+use Rattle.common.proofs.ListsLaws.{all_at}
 use Rattle.bytes.specs.Bytes.{index_after, index_of}
 use Rattle.common.proofs.slice.past_blocks.Statement.{statement}
 use Rattle.common.proofs.slice.past_blocks.Tie as tie
@@ -36,7 +36,7 @@ passed x s i (suc n) h f =
 
 block : (x : ℕ) (s : List ℕ) (i : ℕ) → i + 32 ≤ length s → all 32 (λ j. not (eqb (get_or s (i + j) 0) x)) ≡ true
     → i + 32 + index_of x (drop (i + 32) s) ≡ i + index_of x (drop i s)
-block x s i h p = passed x s i 32 h (λ j k. not-true _ (all-at (λ j. not (eqb (get_or s (i + j) 0) x)) 32 p j k))
+block x s i h p = passed x s i 32 h (λ j k. not-true _ (all_at (λ j. not (eqb (get_or s (i + j) 0) x)) 32 p j k))
 
 abbrev invariant-loop : tie.invariant-loop
 invariant-loop s from x i₀ i = (i ≤ length s) × (from + index_of x (drop from s) ≡ i + index_of x (drop i s))

@@ -5,8 +5,8 @@ use borrow.Author.Rules.{rules}
 use borrow.Author.Tests.{eq-eqb, ne_eqb}
 use lib.Dec.{eqb}
 use lib.ListN.{length, get_or}
-use Rattle.common.specs.Lists.{sameBytes}
-use Rattle.common.proofs.LoopLaws.{TestedSoFar, testing-none, testing-more, testing-end}
+use Rattle.common.specs.Lists.{same_bytes}
+use Rattle.common.proofs.LoopLaws.{TestedSoFar, testing_none, testing_more, testing_end}
 use Rattle.common.proofs.slice.same.Statement.{statement}
 use Rattle.common.proofs.slice.same.Tie as tie
 
@@ -17,16 +17,16 @@ abbrev decreases-loop : tie.decreases-loop
 decreases-loop a b same₀ i₀ end same i = length a - i
 
 returns : tie.Need-returns invariant-loop decreases-loop
-unfolding sameBytes
+unfolding same_bytes
 returns c = rw (ne_eqb _ _ c.if1.true)
 
 returns-2 : tie.Need-returns-2 invariant-loop decreases-loop
-unfolding sameBytes
-returns-2 c = rw (eq-eqb _ _ c.before.before.if1.false) (testing-end c.before.loop.invariant.1 (search rules))
+unfolding same_bytes
+returns-2 c = rw (eq-eqb _ _ c.before.before.if1.false) (testing_end c.before.loop.invariant.1 (search rules))
 
 pub same_spec : {M : Type 1} → statement M
 same_spec =
     tie.close
     (tie.spec
-    invariant-loop decreases-loop returns (λ c. (search rules, testing-none)) (λ c. search rules) (λ c. search rules) (λ c. search rules) (λ c. search rules)
-    (λ c. let at = c.before.before.before in (at.loop.invariant.0, testing-more at.loop.invariant.1 (search rules) refl)) returns-2)
+    invariant-loop decreases-loop returns (λ c. (search rules, testing_none)) (λ c. search rules) (λ c. search rules) (λ c. search rules) (λ c. search rules)
+    (λ c. let at = c.before.before.before in (at.loop.invariant.0, testing_more at.loop.invariant.1 (search rules) refl)) returns-2)

@@ -3,21 +3,21 @@
 use mathlib.Core.Path.{sym, ◌∙◌}
 use native.Mathlib.Omega.{arith}
 use borrow.Author.Rules.{rules}
-use Rattle.common.proofs.StoreLaws.{store-fits, store-not, part-over, copied}
+use Rattle.common.proofs.StoreLaws.{store_fits, store_not, part_over, copied}
 use Rattle.common.proofs.slice.store.Statement.{statement}
 use Rattle.common.proofs.slice.store.Tie as tie
 
 returns : tie.Need-returns
-returns c = let a = c.before.before.before.args in sym (store-not a.out.now a.s.now a.at (omega arith))
+returns c = let a = c.before.before.before.args in sym (store_not a.out.now a.s.now a.at (omega arith))
 
 returns-2 : tie.Need-returns-2
-returns-2 c = let a = c.before.before.before.before.args in sym (store-not a.out.now a.s.now a.at (omega arith))
+returns-2 c = let a = c.before.before.before.before.args in sym (store_not a.out.now a.s.now a.at (omega arith))
 
 returns-3 : tie.Need-returns-3
 returns-3 c =
     let tested = c.before.before.before.before in
     let a = tested.before.before.before.before.args in
-    part-over a.out.now a.s.now a.at (c.before.before.copy.ensures.1 ∙ copied a.s.now _) ∙ sym (store-fits a.out.now a.s.now a.at (omega arith))
+    part_over a.out.now a.s.now a.at (c.before.before.copy.ensures.1 ∙ copied a.s.now _) ∙ sym (store_fits a.out.now a.s.now a.at (omega arith))
 
 pub store_spec : {M : Type 1} → statement M
 store_spec =

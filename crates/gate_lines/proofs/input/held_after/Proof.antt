@@ -1,20 +1,20 @@
--- `gate_lines::input::held_after` meets its contract. Assumes nothing.
+-- `gate_lines::input::held_after_lem` meets its contract. Assumes nothing.
 use native.Mathlib.Omega.{arith}
 use borrow.Author.Rules.{rules}
-use Rattle.gate_lines.specs.InputCode.{heldAfter}
-use Rattle.gate_lines.proofs.input.held_after.Statement.{statement}
-use Rattle.gate_lines.proofs.input.held_after.Tie as tie
+use Rattle.gate_lines.specs.InputCode.{held_after}
+use Rattle.gate_lines.proofs.input.held_after_lem.Statement.{statement}
+use Rattle.gate_lines.proofs.input.held_after_lem.Tie as tie
 
 returns : tie.Need-returns
-unfolding heldAfter
+unfolding held_after
 returns c = (omega arith, omega arith)
 
 returns-2 : tie.Need-returns-2
-unfolding heldAfter
+unfolding held_after
 returns-2 c = (omega arith, omega arith)
 
 returns-3 : tie.Need-returns-3
-unfolding heldAfter
+unfolding held_after
 returns-3 c = (omega arith, omega arith)
 
 pub held-after-spec : {M : Type 1} → statement M

@@ -5,23 +5,23 @@ use native.Mathlib.Omega.{arith}
 use borrow.Author.Rules.{rules}
 use lib.ListN.{length, get_or, length-set}
 use Rattle.common.specs.Lists.{written}
-use Rattle.common.proofs.ListsLaws.{written_none, written-more}
-use Rattle.gate_lines.specs.Input.{mostHeld}
-use Rattle.gate_lines.specs.InputCode.{heldAfter, lineAfter}
+use Rattle.common.proofs.ListsLaws.{written_none, written_more}
+use Rattle.gate_lines.specs.Input.{most_held}
+use Rattle.gate_lines.specs.InputCode.{held_after, line_after}
 use Rattle.gate_lines.proofs.input.hold.Statement.{statement}
 use Rattle.gate_lines.proofs.input.hold.Tie as tie
 
 abbrev invariant-loop : tie.invariant-loop
 invariant-loop line₀ held block from end most j₀ j-end line j =
-    (most ≡ held + min (end - from) (mostHeld - held)) × (j ≤ most - held) × (line ≡ written line₀ held j (λ i. get_or block (from + i) 0)) × (length line ≡ mostHeld)
+    (most ≡ held + min (end - from) (most_held - held)) × (j ≤ most - held) × (line ≡ written line₀ held j (λ i. get_or block (from + i) 0)) × (length line ≡ most_held)
 
 abbrev decreases-loop : tie.decreases-loop
 decreases-loop line₀ held block from end most j₀ j-end line j = most - held - j
 
 most-is : (c : tie.After-held-after invariant-loop decreases-loop)
-    → let a = c.before.before.before.args in c.held_after.result ≡ a.held + min (a.end - a.from) (mostHeld - a.held)
-unfolding heldAfter
-most-is c = c.held_after.ensures.0
+    → let a = c.before.before.before.args in c.held_after_lem.result ≡ a.held + min (a.end - a.from) (most_held - a.held)
+unfolding held_after
+most-is c = c.held_after_lem.ensures.0
 
 sub-j-end : tie.Need-overflow-sub-j-end invariant-loop decreases-loop
 sub-j-end c = omega (arith, most-is c)
@@ -47,19 +47,19 @@ loop-again c =
     let at = c.before.before in (
       at.loop.invariant.0,
       search rules,
-      written-more a.line.now a.held at.loop.j (λ i. get_or a.block.now (a.from + i) 0)
+      written_more a.line.now a.held at.loop.j (λ i. get_or a.block.now (a.from + i) 0)
           (omega (arith, at.loop.invariant.0, at.before.before.before.before.requires.2))
           at.loop.invariant.2 refl,
       rw length-set at.loop.invariant.3,
     )
 
 returns : tie.Need-returns invariant-loop decreases-loop
-unfolding lineAfter
+unfolding line_after
 returns c =
     let at = c.before in
     let a = c.before.before.before.before.before.args in
-    let e : at.loop.j ≡ min (a.end - a.from) (mostHeld - a.held) = omega (arith, at.loop.invariant.0) in
-    (at.before.held_after.ensures.0, rw e at at.loop.invariant.2)
+    let e : at.loop.j ≡ min (a.end - a.from) (most_held - a.held) = omega (arith, at.loop.invariant.0) in
+    (at.before.held_after_lem.ensures.0, rw e at at.loop.invariant.2)
 
 pub hold-spec : {M : Type 1} → statement M
 hold-spec =

@@ -6,8 +6,8 @@ use Prim.Native.Nat.{ℕ, ◌≤◌}
 use native.Mathlib.Omega.{arith}
 use borrow.Author.Rules.{rules}
 use lib.ListN.{length}
-use Rattle.gate_lines.specs.Line.{longest, openLowest, openHighest, answerOpens, verdictLowest, verdictHighest, headed, call_in}
-use Rattle.gate_lines.proofs.LineLaws.{headed-room}
+use Rattle.gate_lines.specs.Line.{longest, open_lowest, open_highest, answer_opens, verdict_lowest, verdict_highest, headed, call_in}
+use Rattle.gate_lines.proofs.LineLaws.{headed_room}
 use Rattle.gate_lines.proofs.line.call_line.Statement.{statement}
 use Rattle.gate_lines.proofs.line.call_line.Tie as tie
 
@@ -25,27 +25,27 @@ short : (c : tie.After-headed) → length (first c) ≤ longest
 short c = c.before.before.before.before.requires
 
 -- what each test tells
-open_is : (c : tie.Then1) → headed openLowest openHighest (first c.before) ≡ true
+open_is : (c : tie.Then1) → headed open_lowest open_highest (first c.before) ≡ true
 open_is c = sym c.before.headed.ensures ∙ c.if1.true
 
-not-open : (c : tie.Else1) → headed openLowest openHighest (first c.before) ≡ false
+not-open : (c : tie.Else1) → headed open_lowest open_highest (first c.before) ≡ false
 not-open c = sym c.before.headed.ensures ∙ c.if1.false
 
-answer-is : (c : tie.Then2) → headed answerOpens answerOpens (second c.before) ≡ true
+answer-is : (c : tie.Then2) → headed answer_opens answer_opens (second c.before) ≡ true
 answer-is c = sym c.before.headed2.ensures ∙ c.if2.true
 
-not_answer : (c : tie.Else2) → headed answerOpens answerOpens (second c.before) ≡ false
+not_answer : (c : tie.Else2) → headed answer_opens answer_opens (second c.before) ≡ false
 not_answer c = sym c.before.headed2.ensures ∙ c.if2.false
 
-verdict-is : (c : tie.Then3) → headed verdictLowest verdictHighest (third c.before) ≡ true
+verdict-is : (c : tie.Then3) → headed verdict_lowest verdict_highest (third c.before) ≡ true
 verdict-is c = sym c.before.headed3.ensures ∙ c.if3.true
 
 -- so there is room for the digits
 open-room : (c : tie.Then1) → 20 ≤ length (first c.before)
-open-room c = headed-room openLowest openHighest (first c.before) (open_is c)
+open-room c = headed_room open_lowest open_highest (first c.before) (open_is c)
 
 verdict-room : (c : tie.Then3) → 16 ≤ length (third c.before)
-verdict-room c = headed-room verdictLowest verdictHighest (third c.before) (verdict-is c)
+verdict-room c = headed_room verdict_lowest verdict_highest (third c.before) (verdict-is c)
 
 returns : tie.Need-returns
 unfolding call_in
@@ -57,7 +57,7 @@ returns-2 : tie.Need-returns-2
 unfolding call_in
 returns-2 c =
     let at = c.before.before.before.before in
-    (rw (not-open at, answer-is c), (headed-room answerOpens answerOpens (second c.before) (answer-is c), short at.before))
+    (rw (not-open at, answer-is c), (headed_room answer_opens answer_opens (second c.before) (answer-is c), short at.before))
 
 returns-3 : tie.Need-returns-3
 unfolding call_in

@@ -7,7 +7,7 @@ use lib.ListN.{drop}
 use lib.Seq.{get_or-drop}
 use Rattle.common.specs.Lists.{number}
 use Rattle.common.specs.Decimal.{spelled}
-use Rattle.common.proofs.DecimalLaws.{spelled-more, spelled-room}
+use Rattle.common.proofs.DecimalLaws.{spelled_more, spelled_room}
 use Rattle.gate_lines.proofs.line.date_in.Statement.{statement}
 use Rattle.gate_lines.proofs.line.date_in.Tie as tie
 
@@ -19,14 +19,14 @@ decreases-loop s n₀ j₀ n j = 8 - j
 
 -- while digits are left to read, n is small
 small : (c : tie.At-loop invariant-loop decreases-loop) → c.loop.j < 8 → c.loop.n < 2 * 10 ^ 7
-small c h = spelled-room (drop 8 c.before.args.s.now) c.loop.j 7 (omega arith) c.loop.invariant.1
+small c h = spelled_room (drop 8 c.before.args.s.now) c.loop.j 7 (omega arith) c.loop.invariant.1
 
 loop-again : tie.Need-loop-preserved invariant-loop decreases-loop
 loop-again c =
     let at = c.before.before in
     let s = at.before.args.s.now in
     let l = at.loop in
-    (search rules, ap (λ (x : ℕ). l.n * 10 + x % 16) (sym (get_or-drop 8 s l.j 0)) ∙ spelled-more (drop 8 s) l.j l.invariant.1)
+    (search rules, ap (λ (x : ℕ). l.n * 10 + x % 16) (sym (get_or-drop 8 s l.j 0)) ∙ spelled_more (drop 8 s) l.j l.invariant.1)
 
 returns : tie.Need-returns invariant-loop decreases-loop
 returns c = let e : c.before.loop.j ≡ 8 = omega arith in rw e at c.before.loop.invariant.1

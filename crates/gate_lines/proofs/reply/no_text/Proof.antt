@@ -1,13 +1,13 @@
 -- `gate_lines::reply::no_text` meets its contract: no byte of an array of zeros counts. Assumes nothing.
 use mathlib.Core.Path.{refl}
-use Rattle.common.specs.Lists.{overFront}
-use Rattle.session.specs.Tables.{stampSize}
-use Rattle.gate_lines.specs.Gate.{textSize}
+use Rattle.common.specs.Lists.{over_front}
+use Rattle.session.specs.Tables.{stamp_size}
+use Rattle.gate_lines.specs.Gate.{text_size}
 use Rattle.gate_lines.proofs.reply.no_text.Statement.{statement}
 use Rattle.gate_lines.proofs.reply.no_text.Tie as tie
 
 returns : tie.Need-returns
-unfolding textSize stampSize overFront
+unfolding text_size stamp_size over_front
 returns c = refl
 
 pub no-text-spec : {M : Type 1} → statement M

@@ -4,19 +4,19 @@ use mathlib.Core.Path.{◌≡◌, ap, ◌∙◌}
 use borrow.Author.Tests.{eq-eqb, ne_eqb}
 use mathlib.Core.List.{List}
 use Prim.Native.Nat.{ℕ}
-use Rattle.card.specs.Fascn.{unpacked, unpackOf}
+use Rattle.card.specs.Fascn.{unpacked, unpack_of}
 use Rattle.host.proofs.cards.gate_unpack.Statement.{statement}
 use Rattle.host.proofs.cards.gate_unpack.Tie as tie
 
 returns : tie.Need-returns
 returns c =
-    let e : unpacked c.before.before.before.unpack.result ≡ unpackOf c.before.before.before.before.before.args.fascn.now = c.before.before.before.unpack.ensures in
+    let e : unpacked c.before.before.before.unpack.result ≡ unpack_of c.before.before.before.before.before.args.fascn.now = c.before.before.before.unpack.ensures in
     let n = c.before.before.number.ensures ∙ ap (λ (x : ℕ × List ℕ). x.0) e in
     (n, rw (eq-eqb _ 0 c.before.if1.true) (ap (λ (x : ℕ × List ℕ). x.1) e))
 
 returns-2 : tie.Need-returns-2
 returns-2 c =
-    let e : unpacked c.before.before.unpack.result ≡ unpackOf c.before.before.before.before.args.fascn.now = c.before.before.unpack.ensures in
+    let e : unpacked c.before.before.unpack.result ≡ unpack_of c.before.before.before.before.args.fascn.now = c.before.before.unpack.ensures in
     (c.before.number.ensures ∙ ap (λ (x : ℕ × List ℕ). x.0) e, rw (ne_eqb _ 0 c.if1.false))
 
 pub gate-unpack-spec : {M : Type 1} → statement M

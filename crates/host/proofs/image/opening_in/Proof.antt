@@ -3,16 +3,16 @@ use borrow.Author.Rules.{rules}
 use native.Mathlib.Omega.{arith}
 use lib.Dec.{lit<}
 use lib.Seq.{get_or-take}
-use Rattle.host.specs.Image.{segmentsIn, cutFrom}
-use Rattle.host.proofs.ImageLaws.{array-in}
+use Rattle.host.specs.Image.{segments_in, cut_from}
+use Rattle.host.proofs.ImageLaws.{array_in}
 use Rattle.host.proofs.image.opening_in.Statement.{statement}
 use Rattle.host.proofs.image.opening_in.Tie as tie
 
 returns : tie.Need-returns
-unfolding segmentsIn cutFrom
+unfolding segments_in cut_from
 returns c =
     let b = c.before.before.before.before.before.before.before.before.before.before.args.image.now in
-    let aid = array-in b 33 16 (omega (arith, c.before.before.before.before.before.before.before.before.part-arg.given)) c.before.before.before.before.before.before.before.part.ensures c.before.before.before.before.before.before.store.ensures in
+    let aid = array_in b 33 16 (omega (arith, c.before.before.before.before.before.before.before.before.part-arg.given)) c.before.before.before.before.before.before.before.part.ensures c.before.before.before.before.before.before.store.ensures in
     rw (get_or-take 9 b 1 0 (lit< tt), c.before.before.four-at.ensures, c.eight-at.ensures, aid)
 
 pub opening-in-spec : {M : Type 1} → statement M

@@ -3,16 +3,16 @@ use borrow.Author.Rules.{rules}
 use mathlib.Core.Path.{sym, ap}
 use Prim.Native.Nat.{ℕ, ◌+◌}
 use native.Mathlib.Omega.{arith}
-use Rattle.host.specs.Image.{highFirst, partBytes}
-use Rattle.host.proofs.NumberLaws.{length_high, over-on}
+use Rattle.host.specs.Image.{high_first, part_bytes}
+use Rattle.host.proofs.NumberLaws.{length_high, over_on}
 use Rattle.host.proofs.image.put_part.Statement.{statement}
 use Rattle.host.proofs.image.put_part.Tie as tie
 
 returns : tie.Need-returns
-unfolding partBytes
+unfolding part_bytes
 returns c =
     let a = c.before.before.before.before.before.before.before.before.before.args in (
-      over-on a.out.now (highFirst 4 a.p.start) (highFirst 4 a.p.len) c.before.before.before.before.before.before.put_four.ensures.0 c.before.before.put-four2.ensures.0 (ap (λ (n : ℕ). a.at + n) (sym (length_high 4 a.p.start))) (omega (arith, c.before.before.before.before.before.before.before.before.before.requires)),
+      over_on a.out.now (high_first 4 a.p.start) (high_first 4 a.p.len) c.before.before.before.before.before.before.put_four.ensures.0 c.before.before.put-four2.ensures.0 (ap (λ (n : ℕ). a.at + n) (sym (length_high 4 a.p.start))) (omega (arith, c.before.before.before.before.before.before.before.before.before.requires)),
       record { start = c.before.before.before.before.before.before.put_four.ensures.1; len = c.before.before.put-four2.ensures.1 },
     )
 

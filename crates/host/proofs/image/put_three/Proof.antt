@@ -3,8 +3,8 @@ use borrow.Author.Rules.{rules}
 use mathlib.Core.List.{◌++◌}
 use native.Mathlib.Omega.{arith}
 use lib.ListN.{length-append}
-use Rattle.host.specs.Image.{partBytes}
-use Rattle.host.proofs.NumberLaws.{over-on}
+use Rattle.host.specs.Image.{part_bytes}
+use Rattle.host.proofs.NumberLaws.{over_on}
 use Rattle.host.proofs.ImageLaws.{length_part}
 use Rattle.host.proofs.image.put_three.Statement.{statement}
 use Rattle.host.proofs.image.put_three.Tie as tie
@@ -14,9 +14,9 @@ returns c =
     let a = c.before.before.before.before.before.before.before.before.before.before.before.before.before.args in
     let x = length_part a.p in
     let y = length_part a.q in
-    let two = over-on a.out.now (partBytes a.p) (partBytes a.q) c.before.before.before.before.before.before.before.before.before.before.put-part.ensures.0 c.before.before.before.before.before.before.put-part2.ensures.0 (omega (arith, x)) (omega (arith, c.before.before.before.before.before.before.before.before.before.before.before.before.before.requires)) in
-    let both = length-append (partBytes a.p) (partBytes a.q) in (
-      over-on a.out.now (partBytes a.p ++ partBytes a.q) (partBytes a.r) two c.before.before.put-part3.ensures.0 (omega (arith, x, y, both)) (omega (arith, c.before.before.before.before.before.before.before.before.before.before.before.before.before.requires)),
+    let two = over_on a.out.now (part_bytes a.p) (part_bytes a.q) c.before.before.before.before.before.before.before.before.before.before.put-part.ensures.0 c.before.before.before.before.before.before.put-part2.ensures.0 (omega (arith, x)) (omega (arith, c.before.before.before.before.before.before.before.before.before.before.before.before.before.requires)) in
+    let both = length-append (part_bytes a.p) (part_bytes a.q) in (
+      over_on a.out.now (part_bytes a.p ++ part_bytes a.q) (part_bytes a.r) two c.before.before.put-part3.ensures.0 (omega (arith, x, y, both)) (omega (arith, c.before.before.before.before.before.before.before.before.before.before.before.before.before.requires)),
       (c.before.before.before.before.before.before.before.before.before.before.put-part.ensures.1, c.before.before.before.before.before.before.put-part2.ensures.1, c.before.before.put-part3.ensures.1),
     )
 

@@ -2,7 +2,7 @@
 use borrow.Author.Rules.{rules}
 use mathlib.Core.Path.{◌≡◌, sym, ◌∙◌}
 use borrow.Author.Tests.{eq-eqb, ne_eqb}
-use Rattle.session.specs.Operation.{replyNumber}
+use Rattle.session.specs.Operation.{reply_number}
 use Rattle.host.proofs.sessions.keep.Statement.{statement}
 use Rattle.host.proofs.sessions.keep.Tie as tie
 
@@ -13,7 +13,7 @@ returns c =
 
 returns-2 : tie.Need-returns-2
 returns-2 c =
-    let h : replyNumber c.before.before.args.x.reply ≡ 0 → ⊥ = λ e. c.if1.false (c.before.number.ensures ∙ e) in
+    let h : reply_number c.before.before.args.x.reply ≡ 0 → ⊥ = λ e. c.if1.false (c.before.number.ensures ∙ e) in
     (c.before.number.ensures, (rw (ne_eqb _ 0 h), λ e. absurd (c.if1.false e)))
 
 pub keep_spec : {M : Type 1} → statement M

@@ -2,8 +2,8 @@
 use borrow.Author.Rules.{rules}
 use borrow.Author.Tests.{eq-eqb, ne_eqb}
 use Rattle.append.proofs.AppendLaws.{◌then◌, when, unless}
-use Rattle.text.specs.Hex.{hexOf}
-use Rattle.host_examples.specs.LineText.{space, bytesPart}
+use Rattle.text.specs.Hex.{hex_of}
+use Rattle.host_examples.specs.LineText.{space, bytes_part}
 use mathlib.Core.List.{[], ◌++◌}
 use Rattle.host_examples.proofs.line.add_bytes.Statement.{statement}
 use Rattle.host_examples.proofs.line.add_bytes.Tie as tie
@@ -18,8 +18,8 @@ same_length : tie.Need-same-length
 same_length c = search rules
 
 returns : tie.Need-returns
-unfolding bytesPart
-returns c = when (space ++ hexOf c.before.before.before.before.before.before.before.before.args.bytes.now) (eq-eqb _ 0 c.before.before.before.before.before.if1.true) c.before.before.add.ensures
+unfolding bytes_part
+returns c = when (space ++ hex_of c.before.before.before.before.before.before.before.before.args.bytes.now) (eq-eqb _ 0 c.before.before.before.before.before.if1.true) c.before.before.add.ensures
 
 slice-aggregate-add-2 : tie.Need-slice-aggregate-add-2
 slice-aggregate-add-2 c = search rules
@@ -34,7 +34,7 @@ same-length-2 : tie.Need-same-length-2
 same-length-2 c = search rules
 
 returns-2 : tie.Need-returns-2
-unfolding bytesPart
+unfolding bytes_part
 returns-2 c = unless [] (ne_eqb _ 0 c.before.before.before.before.before.before.before.before.before.if1.false) (c.before.before.before.before.before.before.add2.ensures then c.before.before.add-hex.ensures)
 
 pub add-bytes-spec : {M : Type 1} → statement M

@@ -1,7 +1,7 @@
 -- `host_examples::line::add_line` meets its contract: four texts. Assumes nothing.
 use borrow.Author.Rules.{rules}
 use Rattle.append.proofs.AppendLaws.{◌then◌}
-use Rattle.host_examples.specs.LineText.{lineText}
+use Rattle.host_examples.specs.LineText.{line_text}
 use Rattle.host_examples.proofs.line.add_line.Statement.{statement}
 use Rattle.host_examples.proofs.line.add_line.Tie as tie
 
@@ -24,7 +24,7 @@ same_length : tie.Need-same-length
 same_length c = search rules
 
 returns : tie.Need-returns
-unfolding lineText
+unfolding line_text
 returns c = c.before.before.before.before.before.before.before.before.before.before.before.before.before.before.before.add.ensures then c.before.before.before.before.before.before.before.before.before.before.before.add-numbers.ensures then c.before.before.before.before.before.before.before.add-bytes.ensures then c.before.before.add2.ensures
 
 pub add-line-spec : {M : Type 1} → statement M

@@ -1,7 +1,7 @@
 -- `host_examples::line::add_number` meets its contract: a space and the digits. Assumes nothing.
 use borrow.Author.Rules.{rules}
 use Rattle.append.proofs.AppendLaws.{◌then◌}
-use Rattle.host_examples.specs.LineText.{numberPart}
+use Rattle.host_examples.specs.LineText.{number_part}
 use Rattle.host_examples.proofs.line.add_number.Statement.{statement}
 use Rattle.host_examples.proofs.line.add_number.Tie as tie
 
@@ -18,7 +18,7 @@ same_length : tie.Need-same-length
 same_length c = search rules
 
 returns : tie.Need-returns
-unfolding numberPart
+unfolding number_part
 returns c = c.before.before.before.before.before.before.add.ensures then c.before.before.add-decimal.ensures
 
 pub add-number-spec : {M : Type 1} → statement M

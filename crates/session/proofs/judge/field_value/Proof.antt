@@ -4,16 +4,16 @@ use Prim.Native.Nat.{◌+◌, ◌-◌}
 use native.Mathlib.Omega.{arith}
 use borrow.Author.Rules.{rules}
 use lib.ListN.{length}
-use Rattle.card.specs.Object.{fieldPart, fieldValue, bytes_at}
-use Rattle.card.proofs.ObjectLaws.{Inside, part-inside}
+use Rattle.card.specs.Object.{field_part, field_value, bytes_at}
+use Rattle.card.proofs.ObjectLaws.{Inside, part_inside_lem}
 use Rattle.session.proofs.judge.field_value.Statement.{statement}
 use Rattle.session.proofs.judge.field_value.Tie as tie
 
-part-is : (c : tie.After-part-of) → c.part_of.result ≡ fieldPart c.before.before.args.kind c.before.before.args.tag c.before.before.args.s.now
+part-is : (c : tie.After-part-of) → c.part_of.result ≡ field_part c.before.before.args.kind c.before.before.args.tag c.before.before.args.s.now
 part-is c = rw c.before.before.requires c.part_of.ensures
 
 inside : (c : tie.After-part-of) → Inside (length c.before.before.args.s.now) c.part_of.result
-inside c = rw (part-is c) (part-inside _ _ _)
+inside c = rw (part-is c) (part_inside_lem _ _ _)
 
 add-end : tie.Need-overflow-add-end
 add-end c = omega (arith, inside c.before.before)
@@ -22,7 +22,7 @@ part-result-end : tie.Need-slice-bounds-result-end
 part-result-end c = inside c.before.before
 
 returns : tie.Need-returns
-unfolding fieldValue bytes_at
+unfolding field_value bytes_at
 returns c =
     let p = c.before.before.before.part_of.result in
     let e : p.start + p.len - p.start ≡ p.len = omega arith in

@@ -4,9 +4,9 @@ use mathlib.Core.Path.{refl}
 use Prim.Native.Nat.{◌-◌}
 use lib.Dec.{leb}
 use lib.ListN.{get_or}
-use Rattle.common.proofs.LoopLaws.{TestedSoFar, testing-none, testing-more, testing-end}
+use Rattle.common.proofs.LoopLaws.{TestedSoFar, testing_none, testing_more, testing_end}
 use Rattle.session.specs.Tables.{checks}
-use Rattle.session.specs.Ranges.{outcomesInRange}
+use Rattle.session.specs.Ranges.{outcomes_in_range}
 use Rattle.session.proofs.range.outcomes_in_range.Statement.{statement}
 use Rattle.session.proofs.range.outcomes_in_range.Tie as tie
 
@@ -17,9 +17,9 @@ abbrev decreases-loop : tie.decreases-loop
 decreases-loop o ok₀ i₀ ok i = checks - i
 
 pub outcomes-in-range-spec : {M : Type 1} → statement M
-unfolding outcomesInRange
+unfolding outcomes_in_range
 outcomes-in-range-spec =
     tie.close
     (tie.spec
-    invariant-loop decreases-loop (λ c. testing-none) (λ c. search rules) (λ c. search rules) (λ c. search rules)
-    (λ c. testing-more c.before.loop.invariant (search rules) refl) (λ c. testing-end c.before.loop.invariant (search rules)))
+    invariant-loop decreases-loop (λ c. testing_none) (λ c. search rules) (λ c. search rules) (λ c. search rules)
+    (λ c. testing_more c.before.loop.invariant (search rules) refl) (λ c. testing_end c.before.loop.invariant (search rules)))

@@ -2,22 +2,22 @@
 use borrow.Author.Rules.{rules}
 use Prim.Native.Nat.{◌-◌}
 use lib.ListN.{get_or}
-use Rattle.common.proofs.LoopLaws.{TestedSoFar, testing-none, testing-more, testing-end}
-use Rattle.card.specs.Object.{empty, mostFields}
-use Rattle.session.specs.Ranges.{partInside, partsInside}
+use Rattle.common.proofs.LoopLaws.{TestedSoFar, testing_none, testing_more, testing_end}
+use Rattle.card.specs.Object.{empty, most_fields}
+use Rattle.session.specs.Ranges.{part_inside, parts_inside}
 use Rattle.session.proofs.range.parts_inside.Statement.{statement}
 use Rattle.session.proofs.range.parts_inside.Tie as tie
 
 abbrev invariant-loop : tie.invariant-loop
-invariant-loop base parts ok₀ i₀ ok i = TestedSoFar mostFields (λ j. partInside base (get_or parts j empty)) i ok
+invariant-loop base parts ok₀ i₀ ok i = TestedSoFar most_fields (λ j. part_inside base (get_or parts j empty)) i ok
 
 abbrev decreases-loop : tie.decreases-loop
-decreases-loop base parts ok₀ i₀ ok i = mostFields - i
+decreases-loop base parts ok₀ i₀ ok i = most_fields - i
 
 pub parts-inside-spec : {M : Type 1} → statement M
-unfolding partsInside
+unfolding parts_inside
 parts-inside-spec =
     tie.close
     (tie.spec
-    invariant-loop decreases-loop (λ c. testing-none) (λ c. search rules) (λ c. search rules) (λ c κs. search rules) (λ c. search rules) (λ c. search rules)
-    (λ c. testing-more c.before.before.before.loop.invariant (search rules) c.part-inside.ensures) (λ c. testing-end c.before.loop.invariant (search rules)))
+    invariant-loop decreases-loop (λ c. testing_none) (λ c. search rules) (λ c. search rules) (λ c κs. search rules) (λ c. search rules) (λ c. search rules)
+    (λ c. testing_more c.before.before.before.loop.invariant (search rules) c.part_inside_lem.ensures) (λ c. testing_end c.before.loop.invariant (search rules)))

@@ -6,9 +6,9 @@ use mathlib.Core.Bool.{not, ◌||◌}
 use Prim.Native.Nat.{◌+◌, ◌-◌}
 use lib.Dec.{eqb}
 use lib.ListN.{length, get_or}
-use Rattle.common.proofs.LoopLaws.{TestedSoFar, testing-none, testing-more, testing-end}
+use Rattle.common.proofs.LoopLaws.{TestedSoFar, testing_none, testing_more, testing_end}
 use Rattle.session.specs.Tables as tables
-use Rattle.session.specs.Tables.{checks, passed, allPassed}
+use Rattle.session.specs.Tables.{checks, passed, all_passed}
 use Rattle.session.proofs.tables.all_passed.Statement.{statement}
 use Rattle.session.proofs.tables.all_passed.Tie as tie
 
@@ -19,14 +19,14 @@ abbrev decreases-loop : tie.decreases-loop
 decreases-loop mode o ok₀ i₀ ok i = checks - i
 
 returns : tie.Need-returns invariant-loop decreases-loop
-unfolding allPassed
+unfolding all_passed
 returns c =
     let counted : length c.before.before.args.t2 ≡ checks = omega arith in
-    rw counted (testing-end c.before.loop.invariant (search rules))
+    rw counted (testing_end c.before.loop.invariant (search rules))
 
 pub all-passed-spec : {M : Type 1} → statement M
 all-passed-spec =
     tie.close
     (tie.spec
-    invariant-loop decreases-loop (λ c. testing-none) (λ c. search rules) (λ c. search rules) (λ c κs. search rules) (λ c. search rules) (λ c. search rules) (λ c. search rules)
-    (λ c. testing-more c.before.before.loop.invariant (search rules) (rw c.needs.ensures)) returns)
+    invariant-loop decreases-loop (λ c. testing_none) (λ c. search rules) (λ c. search rules) (λ c κs. search rules) (λ c. search rules) (λ c. search rules) (λ c. search rules)
+    (λ c. testing_more c.before.before.loop.invariant (search rules) (rw c.needs.ensures)) returns)

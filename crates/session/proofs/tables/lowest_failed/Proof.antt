@@ -6,27 +6,27 @@ use mathlib.Core.Logic.{⊎_elim}
 use mathlib.Core.List.{[]}
 use Prim.Native.Nat.{◌+◌, ◌-◌, ◌≤◌}
 use lib.ListN.{drop, drop_of_length-le}
-use Rattle.session.proofs.TablesLaws.{lowest-here, lowest-later}
-use Rattle.session.specs.Tables.{checks, lowestFrom}
+use Rattle.session.proofs.TablesLaws.{lowest_here, lowest_later}
+use Rattle.session.specs.Tables.{checks, lowest_from}
 use Rattle.session.proofs.tables.lowest_failed.Statement.{statement}
 use Rattle.session.proofs.tables.lowest_failed.Tie as tie
 
 abbrev invariant-loop : tie.invariant-loop
-invariant-loop o lowest₀ i₀ lowest i = (i ≤ checks) × (lowest ≤ checks) × (lowest ≡ lowestFrom (i + 1) (drop i o))
+invariant-loop o lowest₀ i₀ lowest i = (i ≤ checks) × (lowest ≤ checks) × (lowest ≡ lowest_from (i + 1) (drop i o))
 
 abbrev decreases-loop : tie.decreases-loop
 decreases-loop o lowest₀ i₀ lowest i = i
 
 loop-holds : tie.Need-loop-init invariant-loop decreases-loop
-unfolding lowestFrom
+unfolding lowest_from
 loop-holds c = let none : drop checks c.args.t1 ≡ [] = drop_of_length-le c.args.t1 {i = checks} (omega arith) in (omega arith, omega arith, rw none)
 
 loop-again : tie.Need-loop-preserved invariant-loop decreases-loop
 loop-again c =
     let o = c.before.before.before.args.t1 in
     let i = c.before.before.loop.i in
-    ⊎_elim (λ w. (omega arith, omega (arith, w.1), w.1 ∙ lowest-here o (i - 1) i (omega arith) (omega arith) w.0.taken))
-    (λ w. (omega arith, omega (arith, w.1), w.1 ∙ lowest-later o (i - 1) i (omega arith) (omega arith) w.0.left c.before.before.loop.invariant.2))
+    ⊎_elim (λ w. (omega arith, omega (arith, w.1), w.1 ∙ lowest_here o (i - 1) i (omega arith) (omega arith) w.0.taken))
+    (λ w. (omega arith, omega (arith, w.1), w.1 ∙ lowest_later o (i - 1) i (omega arith) (omega arith) w.0.left c.before.before.loop.invariant.2))
     c.if1.branch
 
 returns : tie.Need-returns invariant-loop decreases-loop

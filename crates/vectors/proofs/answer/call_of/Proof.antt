@@ -4,24 +4,24 @@ use mathlib.Core.Bool.{cond}
 use mathlib.Core.List.{List, [], ◌∷◌}
 use Prim.Native.Nat.{ℕ}
 use borrow.Author.Rules.{rules}
-use Rattle.common.specs.Lists.{sameBytes}
+use Rattle.common.specs.Lists.{same_bytes}
 use Rattle.vectors.specs.declared.answer.VectorCall.{VectorCall}
 use Rattle.vectors.specs.declared.answer.VectorCall.TheVariants.{Unknown}
-use Rattle.vectors.specs.Answer.{callAmong, callNamed}
+use Rattle.vectors.specs.Answer.{call_among, call_named}
 use Rattle.vectors.proofs.answer.call_of.Statement.{statement}
 use Rattle.vectors.proofs.answer.call_of.Tie as tie
 
-row_is : (name word : List ℕ) (call : VectorCall) (rows : List (List ℕ × VectorCall)) {r o : VectorCall} → r ≡ cond (sameBytes name word) call o → o ≡ callAmong rows name
-    → r ≡ callAmong ((word, call) ∷ rows) name
-unfolding callAmong
-row_is name word call rows p q = p ∙ ap (λ (x : VectorCall). cond (sameBytes name word) call x) q
+row_is : (name word : List ℕ) (call : VectorCall) (rows : List (List ℕ × VectorCall)) {r o : VectorCall} → r ≡ cond (same_bytes name word) call o → o ≡ call_among rows name
+    → r ≡ call_among ((word, call) ∷ rows) name
+unfolding call_among
+row_is name word call rows p q = p ∙ ap (λ (x : VectorCall). cond (same_bytes name word) call x) q
 
-last-is : (name : List ℕ) → Unknown ≡ callAmong [] name
-unfolding callAmong
+last-is : (name : List ℕ) → Unknown ≡ call_among [] name
+unfolding call_among
 last-is name = refl
 
 returns : tie.Need-returns
-unfolding callNamed
+unfolding call_named
 returns c =
     let at-row23 = c.before.before in
     let at-row22 = at-row23.before.before in

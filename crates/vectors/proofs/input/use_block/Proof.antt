@@ -4,7 +4,7 @@ use Prim.Native.Nat.{◌≤◌}
 use native.Mathlib.Omega.{arith}
 use borrow.Author.Rules.{rules}
 use lib.ListN.{length, length-take}
-use Rattle.vectors.proofs.InputLaws.{kept-is}
+use Rattle.vectors.proofs.InputLaws.{kept_is}
 use Rattle.vectors.proofs.input.use_block.Statement.{statement}
 use Rattle.vectors.proofs.input.use_block.Tie as tie
 
@@ -22,7 +22,7 @@ returns c =
     let b = done.before.front.ensures in
     let kept = c.before.before.keep.ensures in
     let e = done.add-lines.ensures in
-    let is = kept-is a.block.now done.add-lines.result.used a.end start.requires (used-inside done) (rw b at e.1.0) in
+    let is = kept_is a.block.now done.add-lines.result.used a.end start.requires (used-inside done) (rw b at e.1.0) in
     (rw b at e.0, (kept.1 ∙ is.0, (kept.0 ∙ is.1, omega (arith, kept.0))))
 
 pub use-block-spec : {M : Type 1} → statement M

@@ -3,12 +3,12 @@ use mathlib.Core.Path.{ap, ◌∙◌}
 use Prim.Native.Nat.{ℕ, ◌+◌}
 use borrow.Author.Rules.{rules}
 use lib.ListN.{drop}
-use Rattle.vectors.specs.Line.{afterPlace, first_word, afterWord, answerOfLine}
+use Rattle.vectors.specs.Line.{after_place, first_word, after_word, answer_of_line}
 use Rattle.vectors.proofs.line.add_answer_of.Statement.{statement}
 use Rattle.vectors.proofs.line.add_answer_of.Tie as tie
 
 returns : tie.Need-returns
-unfolding answerOfLine afterPlace first_word afterWord
+unfolding answer_of_line after_place first_word after_word
 returns c =
     let at-add-call = c.before.before in
     let at-after2 = at-add-call.before in

@@ -1,12 +1,12 @@
 -- `vectors::line::add_line` meets its contract: four texts. Assumes nothing.
 use borrow.Author.Rules.{rules}
 use Rattle.append.proofs.AppendLaws.{◌then◌}
-use Rattle.vectors.specs.Line.{lineText}
+use Rattle.vectors.specs.Line.{line_text}
 use Rattle.vectors.proofs.line.add_line.Statement.{statement}
 use Rattle.vectors.proofs.line.add_line.Tie as tie
 
 returns : tie.Need-returns
-unfolding lineText
+unfolding line_text
 returns c =
     let at-add3 = c.before.before in
     let at-answer = at-add3.before.before.before.before.before in

@@ -6,10 +6,10 @@ use native.Mathlib.Omega.{arith}
 use borrow.Author.Rules.{rules}
 use lib.ListN.{length, take}
 use Rattle.common.specs.Lists.{written}
-use Rattle.text.specs.Hex.{bytesIn, byteAt}
+use Rattle.text.specs.Hex.{bytes_in, byte_at}
 use Rattle.text.proofs.HexLaws.{front_bytes}
 use Rattle.append.proofs.AppendLaws.{same_text}
-use Rattle.vectors.specs.Answer.{answerText}
+use Rattle.vectors.specs.Answer.{answer_text}
 use Rattle.vectors.proofs.line.add_spelled.Statement.{statement}
 use Rattle.vectors.proofs.line.add_spelled.Tie as tie
 
@@ -24,9 +24,9 @@ returns c =
     let b = at-large-buffer.large-buffer.result in
     let n = at_read.read.result in
     let half : n ≡ length digits / 2 = omega (arith, at-large-buffer.large-buffer.ensures) in
-    let spelled : take n at_read.read.new.1.0 ≡ bytesIn digits =
-    ap (λ (l : List ℕ). take n l) at_read.read.ensures.1.0 ∙ ap (λ (i : ℕ). take i (written b 0 i (byteAt digits))) half ∙ front_bytes digits b in
-    same_text (ap₂ answerText at-call-of.call-of.ensures spelled) at-answer.answer.ensures
+    let spelled : take n at_read.read.new.1.0 ≡ bytes_in digits =
+    ap (λ (l : List ℕ). take n l) at_read.read.ensures.1.0 ∙ ap (λ (i : ℕ). take i (written b 0 i (byte_at digits))) half ∙ front_bytes digits b in
+    same_text (ap₂ answer_text at-call-of.call-of.ensures spelled) at-answer.answer.ensures
 
 pub add-spelled-spec : {M : Type 1} → statement M
 add-spelled-spec =

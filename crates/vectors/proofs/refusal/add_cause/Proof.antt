@@ -1,12 +1,12 @@
 -- `vectors::refusal::add_cause` meets its contract: two texts. Assumes nothing.
 use borrow.Author.Rules.{rules}
 use Rattle.append.proofs.AppendLaws.{◌then◌}
-use Rattle.vectors.specs.RefusalText.{causeText}
+use Rattle.vectors.specs.RefusalText.{cause_text}
 use Rattle.vectors.proofs.refusal.add_cause.Statement.{statement}
 use Rattle.vectors.proofs.refusal.add_cause.Tie as tie
 
 returns : tie.Need-returns
-unfolding causeText
+unfolding cause_text
 returns c =
     let at-add-decimal = c.before.before in
     let at-add = at-add-decimal.before.before.before.before in

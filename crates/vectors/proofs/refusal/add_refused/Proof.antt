@@ -1,12 +1,12 @@
 -- `vectors::refusal::add_refused` meets its contract: two texts. Assumes nothing.
 use borrow.Author.Rules.{rules}
 use Rattle.append.proofs.AppendLaws.{◌then◌}
-use Rattle.vectors.specs.RefusalText.{refusalText}
+use Rattle.vectors.specs.RefusalText.{refusal_text}
 use Rattle.vectors.proofs.refusal.add_refused.Statement.{statement}
 use Rattle.vectors.proofs.refusal.add_refused.Tie as tie
 
 returns : tie.Need-returns
-unfolding refusalText
+unfolding refusal_text
 returns c =
     let at-add-decimal = c.before.before in
     let at-add = at-add-decimal.before.before.before.before in

@@ -6,8 +6,8 @@ use native.Mathlib.Omega.{arith}
 use borrow.Author.Rules.{rules}
 use lib.ListN.{get_or}
 use Rattle.common.specs.Lists.{number}
-use Rattle.card.specs.Fascn.{charBit}
-use Rattle.card.specs.FascnCode.{charOf}
+use Rattle.card.specs.Fascn.{char_bit}
+use Rattle.card.specs.FascnCode.{char_of}
 use native.Mathlib.Nat.{div-one}
 use Rattle.card.proofs.fascn.characters.character_of.Statement.{statement}
 use Rattle.card.proofs.fascn.characters.character_of.Tie as tie
@@ -17,7 +17,7 @@ unfolding number
 five a b c d p = omega arith
 
 returns : tie.Need-returns
-unfolding charOf charBit number
+unfolding char_of char_bit number
 returns c =
     let x = c.args.x in
     rw div-one (five (x % 2) (x / 2 % 2) (x / 4 % 2) (x / 8 % 2) ((1 + x % 2 + x / 2 % 2 + x / 4 % 2 + x / 8 % 2) % 2))

@@ -6,7 +6,7 @@ use native.Mathlib.Omega.{arith}
 use borrow.Author.Rules.{rules}
 use lib.ListN.{get_or}
 use Rattle.common.specs.Lists.{number}
-use Rattle.common.proofs.NumberLaws.{number_more, number-room}
+use Rattle.common.proofs.NumberLaws.{number_more, number_room}
 use Rattle.card.proofs.fascn.characters.number_in.Statement.{statement}
 use Rattle.card.proofs.fascn.characters.number_in.Tie as tie
 
@@ -22,7 +22,7 @@ room : (c : tie.At-loop invariant-loop decreases-loop) → c.loop.j < c.before.b
 room c h =
     let a = c.before.before.args in
     let pos = c.before.before.requires.positive in
-    number-room a.base a.n (λ i. get_or a.s.now (a.at + i) 0 % a.base) pos (λ i. mod-lt _ pos) c.loop.j h c.loop.invariant.1
+    number_room a.base a.n (λ i. get_or a.s.now (a.at + i) 0 % a.base) pos (λ i. mod-lt _ pos) c.loop.j h c.loop.invariant.1
 
 mul-w : tie.Need-overflow-mul-w invariant-loop decreases-loop
 mul-w c = omega (arith, room c.before (omega arith))

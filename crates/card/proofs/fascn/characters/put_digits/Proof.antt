@@ -5,7 +5,7 @@ use native.Mathlib.Nat.{mod-lt, lt_of_le_of_lt, mul-le-mul_left}
 use native.Mathlib.Omega.{arith}
 use borrow.Author.Rules.{rules}
 use lib.Pow.{pow_pos}
-use Rattle.common.proofs.LoopLaws.{WrittenSoFar, writing-none, writing_more, writing-end}
+use Rattle.common.proofs.LoopLaws.{WrittenSoFar, writing_none, writing_more, writing_end}
 use Rattle.card.proofs.fascn.characters.put_digits.Statement.{statement}
 use Rattle.card.proofs.fascn.characters.put_digits.Tie as tie
 
@@ -30,6 +30,6 @@ pub put-digits-spec : {M : Type 1} → statement M
 put-digits-spec =
     tie.close
     (tie.spec
-    invariant-loop decreases-loop (λ c. writing-none (search rules)) (λ c. search rules) (λ c. search rules) (λ c. omega (arith, shift-lt c)) shift-lt base-pos cast-out
+    invariant-loop decreases-loop (λ c. writing_none (search rules)) (λ c. search rules) (λ c. search rules) (λ c. omega (arith, shift-lt c)) shift-lt base-pos cast-out
     (λ c. search rules) (λ c. search rules) (λ c. search rules) (λ c. search rules) (λ c. writing_more c.before.loop.invariant (search rules) refl)
-    (λ c. search rules) (λ c. writing-end c.before.loop.invariant (search rules)))
+    (λ c. search rules) (λ c. writing_end c.before.loop.invariant (search rules)))

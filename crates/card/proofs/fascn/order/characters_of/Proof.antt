@@ -1,6 +1,6 @@
 -- `card::fascn::order::characters_of` meets its contract: it lays out the characters of the digits and the marks. Assumes nothing.
 use borrow.Author.Rules.{rules}
-use Rattle.card.proofs.OrderLaws.{chars-in-order}
+use Rattle.card.proofs.OrderLaws.{chars_in-order}
 use Rattle.card.proofs.fascn.order.characters_of.Statement.{statement}
 use Rattle.card.proofs.fascn.order.characters_of.Tie as tie
 
@@ -21,7 +21,7 @@ returns c =
       value.check-value.ensures,
       digits.digit-characters.ensures,
     )
-    (chars-in-order digits.before.args.d.now)
+    (chars_in-order digits.before.args.d.now)
 
 pub characters-of-spec : {M : Type 1} → statement M
 characters-of-spec =

@@ -3,7 +3,7 @@ use mathlib.Core.Path.{refl}
 use Prim.Native.Nat.{◌+◌, ◌-◌}
 use borrow.Author.Rules.{rules}
 use lib.ListN.{get_or}
-use Rattle.common.proofs.LoopLaws.{WrittenSoFar, writing-none, writing_more, writing-end}
+use Rattle.common.proofs.LoopLaws.{WrittenSoFar, writing_none, writing_more, writing_end}
 use Rattle.card.proofs.fascn.order.copy_run.Statement.{statement}
 use Rattle.card.proofs.fascn.order.copy_run.Tie as tie
 
@@ -17,5 +17,5 @@ pub copy-run-spec : {M : Type 1} → statement M
 copy-run-spec =
     tie.close
     (tie.spec
-    invariant-loop decreases-loop (λ c. writing-none (search rules)) (λ c. search rules) (λ c. search rules) (λ c. search rules) (λ c. search rules) (λ c. search rules) (λ c. search rules)
-    (λ c. writing_more c.before.before.loop.invariant (search rules) refl) (λ c. search rules) (λ c. writing-end c.before.loop.invariant (search rules)))
+    invariant-loop decreases-loop (λ c. writing_none (search rules)) (λ c. search rules) (λ c. search rules) (λ c. search rules) (λ c. search rules) (λ c. search rules) (λ c. search rules)
+    (λ c. writing_more c.before.before.loop.invariant (search rules) refl) (λ c. search rules) (λ c. writing_end c.before.loop.invariant (search rules)))

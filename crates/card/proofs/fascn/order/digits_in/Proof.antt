@@ -1,12 +1,12 @@
--- `card::fascn::order::digits_in` meets its contract: each run of digits is copied to its place. Assumes nothing.
+-- `card::fascn::order::digits_in_lem` meets its contract: each run of digits is copied to its place. Assumes nothing.
 use borrow.Author.Rules.{rules}
 use Rattle.common.specs.Lists.{list_of, slice_of, written}
-use Rattle.card.specs.Fascn.{digitsFrom}
-use Rattle.card.proofs.fascn.order.digits_in.Statement.{statement}
-use Rattle.card.proofs.fascn.order.digits_in.Tie as tie
+use Rattle.card.specs.Fascn.{digits_from}
+use Rattle.card.proofs.fascn.order.digits_in_lem.Statement.{statement}
+use Rattle.card.proofs.fascn.order.digits_in_lem.Tie as tie
 
 returns : tie.Need-returns
-unfolding written digitsFrom slice_of list_of
+unfolding written digits_from slice_of list_of
 returns c =
     let run6 = c.before in
     let run5 = run6.before.before.before.before in

@@ -1,13 +1,13 @@
 -- `card::fascn::order::in_order` meets its contract: each run of characters is copied to its place, between the marks. Assumes nothing.
 use borrow.Author.Rules.{rules}
 use Rattle.common.specs.Lists.{list_of, slice_of, written}
-use Rattle.card.specs.Fascn.{valuesFrom}
-use Rattle.card.specs.FascnCode.{inOrder, marksMapped}
+use Rattle.card.specs.Fascn.{values_from}
+use Rattle.card.specs.FascnCode.{in_order, marks_mapped}
 use Rattle.card.proofs.fascn.order.in_order.Statement.{statement}
 use Rattle.card.proofs.fascn.order.in_order.Tie as tie
 
 returns : tie.Need-returns
-unfolding written inOrder marksMapped valuesFrom slice_of list_of
+unfolding written in_order marks_mapped values_from slice_of list_of
 returns c =
     let run6 = c.before in
     let run5 = run6.before.before.before.before in

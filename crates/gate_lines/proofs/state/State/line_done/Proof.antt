@@ -11,7 +11,7 @@ returns : tie.Need-returns
 returns c =
     let a = c.before.before.before.before.before.args in
     let whole : take a.held a.line.now ≡ a.line.now = take_all a.held a.line.now (omega arith) in
-    let e = c.run-line.ensures in
+    let e = c.run_line.ensures in
     rw whole (e.0, (e.1.0, e.1.1.0))
 
 slice-aggregate-run-line : tie.Need-slice-aggregate-run-line

@@ -1,11 +1,11 @@
 -- `session::range::Values::out_of_range` meets its contract: its tests are the definition's. Assumes nothing.
 use borrow.Author.Rules.{rules}
-use Rattle.session.specs.Ranges.{valuesInRange}
+use Rattle.session.specs.Ranges.{values_in_range}
 use Rattle.session.proofs.range.Values.out_of_range.Statement.{statement}
 use Rattle.session.proofs.range.Values.out_of_range.Tie as tie
 
 returns : tie.Need-returns
-unfolding valuesInRange
+unfolding values_in_range
 returns c =
     let room = c.before.before.before.before in
     let step = room.before.before.before.before in

@@ -3,25 +3,25 @@ use mathlib.Core.Path.{◌≡◌, sym, ◌∙◌}
 use mathlib.Core.Bool.{false}
 use borrow.Author.Tests.{not-false}
 use borrow.Author.Rules.{rules}
-use Rattle.session.specs.Ranges.{outOfRange}
-use Rattle.session.proofs.SendLaws.{command-out-of-range, command-none, command-made}
-use Rattle.session.proofs.CallPromiseLaws.{command-all}
-use Rattle.session.proofs.RangesLaws.{values-test}
+use Rattle.session.specs.Ranges.{out_of_range}
+use Rattle.session.proofs.SendLaws.{command_out_of_range, command_none, command_made}
+use Rattle.session.proofs.CallPromiseLaws.{command_all}
+use Rattle.session.proofs.RangesLaws.{values_test}
 use Rattle.session.proofs.state.Session.command.Statement.{statement}
 use Rattle.session.proofs.state.Session.command.Tie as tie
 
 returns : tie.Need-returns
-returns c = command-all _ _ _ (command-out-of-range _ _ (sym (values-test _ c.before.before.values.ensures c.before.out_of_range.ensures) ∙ c.if1.true))
+returns c = command_all _ _ _ (command_out_of_range _ _ (sym (values_test _ c.before.before.values.ensures c.before.out_of_range.ensures) ∙ c.if1.true))
 
 -- past the first test the session is in range
-in-range : (c : tie.Else1) → outOfRange c.before.before.before.before.args.self ≡ false
-in-range c = sym (values-test _ c.before.before.values.ensures c.before.out_of_range.ensures) ∙ c.if1.false
+in_range_lem : (c : tie.Else1) → out_of_range c.before.before.before.before.args.self ≡ false
+in_range_lem c = sym (values_test _ c.before.before.values.ensures c.before.out_of_range.ensures) ∙ c.if1.false
 
 returns-2 : tie.Need-returns-2
-returns-2 c = command-all _ _ _ (command-none _ _ (in-range c.before.before) (sym c.before.nothing-to-send.ensures ∙ c.if2.true))
+returns-2 c = command_all _ _ _ (command_none _ _ (in_range_lem c.before.before) (sym c.before.nothing-to-send.ensures ∙ c.if2.true))
 
 write-command-requires : tie.Need-write-command-requires
-write-command-requires c κs = not-false _ (in-range c.before.before.before)
+write-command-requires c κs = not-false _ (in_range_lem c.before.before.before)
 
 returns-3 : tie.Need-returns-3
 returns-3 c =
@@ -30,7 +30,7 @@ returns-3 c =
     let tested = asked.before.before in
     let a = tested.before.before.before.before.args in
     let next = sym asked.before.nothing-to-send.ensures ∙ asked.if2.false in
-    command-all _ _ _ (command-made a.self a.out.now _ w.result (in-range tested) next w.ensures c.sent-by.ensures)
+    command_all _ _ _ (command_made a.self a.out.now _ w.result (in_range_lem tested) next w.ensures c.sent-by.ensures)
 
 pub command-spec : {M : Type 1} → statement M
 command-spec =

@@ -2,7 +2,7 @@
 use borrow.Author.Rules.{rules}
 use mathlib.Core.Path.{ap, ◌∙◌}
 use Rattle.card.specs.Object.{bytes_at}
-use Rattle.session.proofs.CallLaws.{place-value, part_cut}
+use Rattle.session.proofs.CallLaws.{place_value, part_cut}
 use Rattle.session.proofs.CallPromiseLaws.{field_both}
 use Rattle.session.proofs.state.Session.field.Statement.{statement}
 use Rattle.session.proofs.state.Session.field.Tie as tie
@@ -12,7 +12,7 @@ returns c =
     let place = c.before.before.before.place in
     let a = c.before.before.before.before.before.args in
     field_both a.self a.object.now a.tag _
-    (part_cut a.object.now place.result ∙ ap (bytes_at a.object.now) place.ensures.0 ∙ place-value a.self a.object.now a.tag)
+    (part_cut a.object.now place.result ∙ ap (bytes_at a.object.now) place.ensures.0 ∙ place_value a.self a.object.now a.tag)
 
 pub field-spec : {M : Type 1} → statement M
 field-spec =

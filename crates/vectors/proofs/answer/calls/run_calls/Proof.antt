@@ -4,9 +4,9 @@ use Prim.Native.Nat.{◌+◌, ◌-◌, ◌≤◌}
 use native.Mathlib.Omega.{arith}
 use borrow.Author.Rules.{rules}
 use lib.ListN.{length, length-drop}
-use Rattle.append.proofs.AppendLaws.{adding-end}
-use Rattle.vectors.specs.CallsText.{callTexts, hostAt}
-use Rattle.vectors.proofs.CallsLaws.{host, CallsSoFar, no_call, one-call, all-calls}
+use Rattle.append.proofs.AppendLaws.{adding_end}
+use Rattle.vectors.specs.CallsText.{call_texts, host_at}
+use Rattle.vectors.proofs.CallsLaws.{host, CallsSoFar, no_call, one_call, all_calls_lem}
 use Rattle.vectors.proofs.answer.calls.run_calls.Statement.{statement}
 use Rattle.vectors.proofs.answer.calls.run_calls.Tie as tie
 
@@ -22,22 +22,22 @@ add-from c =
     let done = c.before.before.before.before.before.before.before.before.before.before.before.before.loop.invariant.1.1 in
     let size = ap length c.before.before.before.before.before.before.before.before.before.before.after.ensures ∙ length-drop c.before.before.before.before.before.before.before.before.before.before.before.before.loop.from c.before.before.before.before.before.before.before.before.before.before.before.before.before.before.before.before.before.before.before.before.before.args.s.now in
     let fact : c.before.before.before.before.before.before.before.before.before.before.before.before.loop.from + c.least.result ≤ length c.before.before.before.before.before.before.before.before.before.before.before.before.before.before.before.before.before.before.before.before.before.args.s.now = omega (arith, done.inside, c.least.ensures.1.0, size) in
-    omega (arith, fact, c.before.before.before.before.before.before.before.before.before.before.before.before.before.before.before.before.before.before.before.before.before.well-formed.1.1.1.1.0)
+    omega (arith, fact, c.before.before.before.before.before.before.before.before.before.before.before.before.before.before.before.before.before.before.before.before.before.well_formed_lem.1.1.1.1.0)
 
 add-i : tie.Need-overflow-add-i invariant-loop decreases-loop
-add-i c = omega (arith, c.before.before.before.before.before.before.before.before.before.before.before.loop-test.true, c.before.before.before.before.before.before.before.before.before.before.before.before.loop.invariant.0, c.before.before.before.before.before.before.before.before.before.before.before.before.before.before.before.before.before.before.before.before.before.well-formed.1.1.1.1.0)
+add-i c = omega (arith, c.before.before.before.before.before.before.before.before.before.before.before.loop-test.true, c.before.before.before.before.before.before.before.before.before.before.before.before.loop.invariant.0, c.before.before.before.before.before.before.before.before.before.before.before.before.before.before.before.before.before.before.before.before.before.well_formed_lem.1.1.1.1.0)
 
 loop-again : tie.Need-loop-preserved invariant-loop decreases-loop
 loop-again c =
     let inv = c.before.before.before.before.before.before.before.before.before.before.before.before.loop.invariant in
-    (inv.0, (search rules, one-call inv.1.1 (search rules) c.before.before.before.before.before.before.before.before.before.before.after.ensures c.before.before.before.before.before.before.before.run-first.ensures.0 c.before.before.before.before.before.before.before.run-first.ensures.1 c.before.argument-count.ensures.0 c.least.ensures.0))
+    (inv.0, (search rules, one_call inv.1.1 (search rules) c.before.before.before.before.before.before.before.before.before.before.after.ensures c.before.before.before.before.before.before.before.run-first.ensures.0 c.before.before.before.before.before.before.before.run-first.ensures.1 c.before.argument-count.ensures.0 c.least.ensures.0))
 
 returns : tie.Need-returns invariant-loop decreases-loop
-unfolding callTexts
+unfolding call_texts
 returns c =
     let done = c.before.loop.invariant.1.1 in
-    let e : c.before.loop.i ≡ length c.before.before.before.before.before.before.before.before.before.before.args.s.now = all-calls done (search rules) in
-    (adding-end c.before.before.before.before.add.ensures done.texts (search rules), done.host-is ∙ ap (hostAt _ _) e)
+    let e : c.before.loop.i ≡ length c.before.before.before.before.before.before.before.before.before.before.args.s.now = all_calls_lem done (search rules) in
+    (adding_end c.before.before.before.before.add.ensures done.texts (search rules), done.host_is ∙ ap (host_at _ _) e)
 
 pub run-calls-spec : {M : Type 1} → statement M
 run-calls-spec =

@@ -5,11 +5,11 @@ use Prim.Native.Nat.{ℕ}
 use borrow.Author.Rules.{rules}
 use Rattle.session.specs.declared.state.Session.{Session}
 use Rattle.append.proofs.AppendLaws.{same_text}
-use Rattle.vectors.specs.CallsText.{countedText}
+use Rattle.vectors.specs.CallsText.{counted_text}
 use Rattle.vectors.proofs.answer.calls.run_command.Statement.{statement}
 use Rattle.vectors.proofs.answer.calls.run_command.Tie as tie
 
-counted : {n m k l : ℕ} {x y : List ℕ} → n ≡ m → k ≡ l → x ≡ y → countedText n k x ≡ countedText m l y
+counted : {n m k l : ℕ} {x y : List ℕ} → n ≡ m → k ≡ l → x ≡ y → counted_text n k x ≡ counted_text m l y
 counted p q r = rw (p, q, r)
 
 returns : tie.Need-returns

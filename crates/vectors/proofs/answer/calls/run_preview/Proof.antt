@@ -4,13 +4,13 @@ use mathlib.Core.List.{List}
 use Prim.Native.Nat.{ℕ}
 use borrow.Author.Rules.{rules}
 use Rattle.append.proofs.AppendLaws.{same_text}
-use Rattle.vectors.specs.CallsText.{previewWord, bufferText}
+use Rattle.vectors.specs.CallsText.{preview_word, buffer_text}
 use Rattle.vectors.proofs.answer.calls.run_preview.Statement.{statement}
 use Rattle.vectors.proofs.answer.calls.run_preview.Tie as tie
 
 -- by the pair of what the call gives
-by_both : {n m : ℕ} {x : List ℕ} {y : ℕ × List ℕ} → n ≡ m → ◌≡◌ {A = ℕ × List ℕ} (m, x) y → bufferText previewWord n x ≡ bufferText previewWord y.0 y.1
-by_both {x = x} p q = ap (λ (k : ℕ). bufferText previewWord k x) p ∙ ap (λ (z : ℕ × List ℕ). bufferText previewWord z.0 z.1) q
+by_both : {n m : ℕ} {x : List ℕ} {y : ℕ × List ℕ} → n ≡ m → ◌≡◌ {A = ℕ × List ℕ} (m, x) y → buffer_text preview_word n x ≡ buffer_text preview_word y.0 y.1
+by_both {x = x} p q = ap (λ (k : ℕ). buffer_text preview_word k x) p ∙ ap (λ (z : ℕ × List ℕ). buffer_text preview_word z.0 z.1) q
 
 returns : tie.Need-returns
 returns c =

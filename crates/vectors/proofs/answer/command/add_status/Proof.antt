@@ -1,11 +1,11 @@
 -- `vectors::answer::command::add_status` meets its contract: by the status's case. Assumes nothing.
 use borrow.Author.Rules.{rules}
-use Rattle.vectors.specs.CommandText.{textOfStatus}
+use Rattle.vectors.specs.CommandText.{text_of_status}
 use Rattle.vectors.proofs.answer.command.add_status.Statement.{statement}
 use Rattle.vectors.proofs.answer.command.add_status.Tie as tie
 
 returns : tie.Need-returns
-unfolding textOfStatus
+unfolding text_of_status
 returns c =
     let at-add = c.before.before in
     let at-enum-told = at-add.before.before.before in
@@ -13,7 +13,7 @@ returns c =
     rw (← at-status-of.status-of.ensures, at-enum-told.enum_told.given.1) at-add.add.ensures
 
 returns-2 : tie.Need-returns-2
-unfolding textOfStatus
+unfolding text_of_status
 returns-2 c =
     let at-add-second = c.before.before in
     let at_second = at-add-second.before.before.before.before in
@@ -21,7 +21,7 @@ returns-2 c =
     rw (← at-status-of.status-of.ensures, at_second.second.given.1) at-add-second.add-second.ensures
 
 returns-3 : tie.Need-returns-3
-unfolding textOfStatus
+unfolding text_of_status
 returns-3 c =
     let at-add-second2 = c.before.before in
     let at_last = at-add-second2.before.before.before.before in
@@ -29,7 +29,7 @@ returns-3 c =
     rw (← at-status-of.status-of.ensures, at_last.last.given.1) at-add-second2.add-second2.ensures
 
 returns-4 : tie.Need-returns-4
-unfolding textOfStatus
+unfolding text_of_status
 returns-4 c =
     let at-add2 = c.before.before in
     let at-enum-told2 = at-add2.before.before.before in

@@ -1,12 +1,12 @@
 -- `vectors::answer::command::add_unwritten` meets its contract: three texts. Assumes nothing.
 use borrow.Author.Rules.{rules}
 use Rattle.append.proofs.AppendLaws.{◌then◌}
-use Rattle.vectors.specs.CommandText.{unwrittenText}
+use Rattle.vectors.specs.CommandText.{unwritten_text}
 use Rattle.vectors.proofs.answer.command.add_unwritten.Statement.{statement}
 use Rattle.vectors.proofs.answer.command.add_unwritten.Tie as tie
 
 returns : tie.Need-returns
-unfolding unwrittenText
+unfolding unwritten_text
 returns c =
     let at-add-hex = c.before.before in
     let at-add = at-add-hex.before.before.before.before in

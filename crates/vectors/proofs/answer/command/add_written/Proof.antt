@@ -1,12 +1,12 @@
 -- `vectors::answer::command::add_written` meets its contract: five texts. Assumes nothing.
 use borrow.Author.Rules.{rules}
 use Rattle.append.proofs.AppendLaws.{◌then◌}
-use Rattle.vectors.specs.CommandText.{writtenText}
+use Rattle.vectors.specs.CommandText.{written_text}
 use Rattle.vectors.proofs.answer.command.add_written.Statement.{statement}
 use Rattle.vectors.proofs.answer.command.add_written.Tie as tie
 
 returns : tie.Need-returns
-unfolding writtenText
+unfolding written_text
 returns c =
     let at-add-hex2 = c.before.before in
     let at_after = at-add-hex2.before in

@@ -3,12 +3,12 @@ use native.Mathlib.Nat.{add-zero}
 use borrow.Author.Rules.{rules}
 use Rattle.common.specs.Lists.{list_of}
 use Rattle.append.proofs.AppendLaws.{same_text}
-use Rattle.vectors.specs.FascnText.{characterText}
+use Rattle.vectors.specs.FascnText.{character_text}
 use Rattle.vectors.proofs.answer.fascn.add_character.Statement.{statement}
 use Rattle.vectors.proofs.answer.fascn.add_character.Tie as tie
 
 returns : tie.Need-returns
-unfolding characterText list_of
+unfolding character_text list_of
 returns c =
     let at-add = c.before.before in
     let at-bit-digit5 = at-add.before.before.before in

@@ -4,12 +4,12 @@ use mathlib.Core.List.{List}
 use Prim.Native.Nat.{ℕ}
 use borrow.Author.Rules.{rules}
 use Rattle.append.proofs.AppendLaws.{◌then◌}
-use Rattle.vectors.specs.FascnText.{codeText}
+use Rattle.vectors.specs.FascnText.{code_text}
 use Rattle.vectors.proofs.answer.fascn.add_code.Statement.{statement}
 use Rattle.vectors.proofs.answer.fascn.add_code.Tie as tie
 
 returns : tie.Need-returns
-unfolding codeText
+unfolding code_text
 returns c =
     let at-add4 = c.before.before in
     let at-add-character = at-add4.before.before.before.before.before in

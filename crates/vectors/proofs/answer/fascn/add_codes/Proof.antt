@@ -1,12 +1,12 @@
 -- `vectors::answer::fascn::add_codes` meets its contract: four texts. Assumes nothing.
 use borrow.Author.Rules.{rules}
 use Rattle.append.proofs.AppendLaws.{◌then◌}
-use Rattle.vectors.specs.FascnText.{codesText}
+use Rattle.vectors.specs.FascnText.{codes_text}
 use Rattle.vectors.proofs.answer.fascn.add_codes.Statement.{statement}
 use Rattle.vectors.proofs.answer.fascn.add_codes.Tie as tie
 
 returns : tie.Need-returns
-unfolding codesText
+unfolding codes_text
 returns c =
     let at-add-code3 = c.before.before in
     let at-add-code2 = at-add-code3.before.before.before.before.before in

@@ -2,12 +2,12 @@
 use mathlib.Core.Path.{sym, ◌∙◌}
 use borrow.Author.Rules.{rules}
 use Rattle.append.proofs.AppendLaws.{when, unless}
-use Rattle.vectors.specs.FascnText.{digitText}
+use Rattle.vectors.specs.FascnText.{digit_text}
 use Rattle.vectors.proofs.answer.fascn.add_digit.Statement.{statement}
 use Rattle.vectors.proofs.answer.fascn.add_digit.Tie as tie
 
 returns : tie.Need-returns
-unfolding digitText
+unfolding digit_text
 returns c =
     let at-add = c.before.before in
     let test = at-add.before.before.before in
@@ -15,7 +15,7 @@ returns c =
     when _ (sym at-opens-field.opens-field.ensures ∙ test.if1.true) at-add.add.ensures
 
 returns-2 : tie.Need-returns-2
-unfolding digitText
+unfolding digit_text
 returns-2 c =
     let at-add2 = c.before.before in
     let test = at-add2.before.before.before in

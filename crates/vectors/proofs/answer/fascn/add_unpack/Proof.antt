@@ -3,12 +3,12 @@ use borrow.Author.Rules.{rules}
 use borrow.Author.Tests.{eq-eqb, ne_eqb}
 use Rattle.common.specs.Lists.{number}
 use Rattle.append.proofs.AppendLaws.{when, unless}
-use Rattle.vectors.specs.FascnText.{unpackText}
+use Rattle.vectors.specs.FascnText.{unpack_text}
 use Rattle.vectors.proofs.answer.fascn.add_unpack.Statement.{statement}
 use Rattle.vectors.proofs.answer.fascn.add_unpack.Tie as tie
 
 returns : tie.Need-returns
-unfolding unpackText
+unfolding unpack_text
 returns c =
     let at-add-refused = c.before.before in
     let test = at-add-refused.before.before in
@@ -17,7 +17,7 @@ returns c =
     rw (← at-unpack.unpack.ensures, ← at-number.number.ensures) (unless _ (ne_eqb _ _ test.if1.true) at-add-refused.add-refused.ensures)
 
 returns-2 : tie.Need-returns-2
-unfolding unpackText
+unfolding unpack_text
 returns-2 c =
     let at-add-unpacked = c.before.before in
     let test = at-add-unpacked.before.before.before in

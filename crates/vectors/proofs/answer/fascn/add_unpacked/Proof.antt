@@ -4,12 +4,12 @@ use mathlib.Core.List.{List}
 use Prim.Native.Nat.{ℕ}
 use borrow.Author.Rules.{rules}
 use Rattle.append.proofs.AppendLaws.{◌then◌}
-use Rattle.vectors.specs.FascnText.{unpackedText}
+use Rattle.vectors.specs.FascnText.{unpacked_text}
 use Rattle.vectors.proofs.answer.fascn.add_unpacked.Statement.{statement}
 use Rattle.vectors.proofs.answer.fascn.add_unpacked.Tie as tie
 
 returns : tie.Need-returns
-unfolding unpackedText
+unfolding unpacked_text
 returns c =
     let at-add-again = c.before.before in
     let at-add-decimal = at-add-again.before.before.before.before.before in

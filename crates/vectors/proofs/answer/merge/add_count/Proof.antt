@@ -2,19 +2,19 @@
 use borrow.Author.Rules.{rules}
 use borrow.Author.Tests.{eq-eqb, ne_eqb}
 use Rattle.append.proofs.AppendLaws.{◌then◌, when, unless}
-use Rattle.vectors.specs.MergeText.{countText}
+use Rattle.vectors.specs.MergeText.{count_text}
 use Rattle.vectors.proofs.answer.merge.add_count.Statement.{statement}
 use Rattle.vectors.proofs.answer.merge.add_count.Tie as tie
 
 returns : tie.Need-returns
-unfolding countText
+unfolding count_text
 returns c =
     let at-add-refused = c.before.before in
     let test = at-add-refused.before.before in
     rw (← test.before.number.ensures) (unless _ (ne_eqb _ _ test.if1.true) at-add-refused.add-refused.ensures)
 
 returns-2 : tie.Need-returns-2
-unfolding countText
+unfolding count_text
 returns-2 c =
     let at-add = c.before.before in
     let at-add-decimal = at-add.before.before.before.before.before in

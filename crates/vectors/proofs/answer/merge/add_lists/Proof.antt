@@ -2,12 +2,12 @@
 use mathlib.Core.Path.{sym}
 use borrow.Author.Rules.{rules}
 use lib.Seq.{length-take-le}
-use Rattle.vectors.specs.MergeText.{listsText}
+use Rattle.vectors.specs.MergeText.{lists_text}
 use Rattle.vectors.proofs.answer.merge.add_lists.Statement.{statement}
 use Rattle.vectors.proofs.answer.merge.add_lists.Tie as tie
 
 returns : tie.Need-returns
-unfolding listsText
+unfolding lists_text
 returns c =
     let at-add-merged = c.before.before.before in
     let at-keys-in3 = at-add-merged.before.before.before.before.before in

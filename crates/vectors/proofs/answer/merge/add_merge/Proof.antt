@@ -10,14 +10,14 @@ use lib.Dec.{eqb}
 use lib.ListN.{length}
 use Rattle.common.proofs.TestLaws.{and_parts}
 use Rattle.append.proofs.AppendLaws.{when, unless}
-use Rattle.vectors.specs.MergeText.{firstCount, second_count, isMerge, mergeText}
+use Rattle.vectors.specs.MergeText.{first_count, second_count, is_merge, merge_text}
 use Rattle.vectors.proofs.answer.merge.add_merge.Statement.{statement}
 use Rattle.vectors.proofs.answer.merge.add_merge.Tie as tie
 
 -- what the tests say of the counts
-counts : (s : List ℕ) → isMerge s ≡ true
-    → let n = firstCount s in let m = second_count s in (n ≤ 32) × (m ≤ 32) × (n + m ≤ length s / 8) × (length s / 8 ≤ n + m + 32)
-unfolding isMerge
+counts : (s : List ℕ) → is_merge s ≡ true
+    → let n = first_count s in let m = second_count s in (n ≤ 32) × (m ≤ 32) × (n + m ≤ length s / 8) × (length s / 8 ≤ n + m + 32)
+unfolding is_merge
 counts s h =
     let e = and_parts _ _ h in
     let d = and_parts _ _ e.0 in
@@ -26,13 +26,13 @@ counts s h =
     (leb-true _ _ a.1, leb-true _ _ b.1, leb-true _ _ d.1, leb-true _ _ e.1)
 
 returns : tie.Need-returns
-unfolding mergeText
+unfolding merge_text
 returns c =
     let at-add-no-vector = c.before.before in
     let test = at-add-no-vector.before.before in
     unless _ (sym test.before.is-merge.ensures ∙ not-true _ test.if1.true) at-add-no-vector.add-no-vector.ensures
 
-passed : (c : tie.After-byte2) → isMerge c.before.before.before.before.before.before.args.s.now ≡ true
+passed : (c : tie.After-byte2) → is_merge c.before.before.before.before.before.before.args.s.now ≡ true
 passed c = let test = c.before.before in sym test.before.is-merge.ensures ∙ not-false _ test.if1.false
 
 sub-room : tie.Need-overflow-sub-room
@@ -45,7 +45,7 @@ add-lists-requires c κs =
     rw (at-byte2.before.byte.ensures, at-byte2.byte2.ensures) (k.0, k.1, omega (arith, k.3))
 
 returns-2 : tie.Need-returns-2
-unfolding mergeText
+unfolding merge_text
 returns-2 c =
     let at-add-lists = c.before.before in
     let at-byte2 = at-add-lists.before.before.before in

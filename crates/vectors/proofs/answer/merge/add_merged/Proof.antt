@@ -1,12 +1,12 @@
 -- `vectors::answer::merge::add_merged` meets its contract: three texts. Assumes nothing.
 use borrow.Author.Rules.{rules}
 use Rattle.append.proofs.AppendLaws.{◌then◌}
-use Rattle.vectors.specs.MergeText.{mergedText}
+use Rattle.vectors.specs.MergeText.{merged_text}
 use Rattle.vectors.proofs.answer.merge.add_merged.Statement.{statement}
 use Rattle.vectors.proofs.answer.merge.add_merged.Tie as tie
 
 returns : tie.Need-returns
-unfolding mergedText
+unfolding merged_text
 returns c =
     let at-add-places = c.before.before in
     let at-add = at-add-places.before.before.before.before.before in

@@ -4,14 +4,14 @@ use mathlib.Core.List.{◌∷◌}
 use Prim.Native.Nat.{◌-◌}
 use borrow.Author.Rules.{rules}
 use lib.ListN.{length, get_or}
-use Rattle.append.specs.Append.{numberText}
-use Rattle.append.proofs.AppendLaws.{AddedSoFar, adding-none, adding-more, adding-end}
+use Rattle.append.specs.Append.{number_text}
+use Rattle.append.proofs.AppendLaws.{AddedSoFar, adding_none, adding_more, adding_end}
 use Rattle.vectors.proofs.answer.merge.add_places.Statement.{statement}
 use Rattle.vectors.proofs.answer.merge.add_places.Tie as tie
 
 abbrev invariant-loop : tie.invariant-loop
 invariant-loop out₀ at places end₀ i₀ i-end out end i =
-    (i-end ≡ length places) × AddedSoFar out₀ end₀ (length places) (λ j. 0x20 ∷ numberText (get_or places j 0)) i out end
+    (i-end ≡ length places) × AddedSoFar out₀ end₀ (length places) (λ j. 0x20 ∷ number_text (get_or places j 0)) i out end
 
 abbrev decreases-loop : tie.decreases-loop
 decreases-loop out₀ at places end₀ i₀ i-end out end i = i-end - i
@@ -20,12 +20,12 @@ loop-again : tie.Need-loop-preserved invariant-loop decreases-loop
 loop-again c =
     let at-add-key = c.before.before in
     let turn = at-add-key.before.before.before.before.loop in
-    (turn.invariant.0, adding-more turn.invariant.1 (search rules) at-add-key.add-key.ensures)
+    (turn.invariant.0, adding_more turn.invariant.1 (search rules) at-add-key.add-key.ensures)
 
 pub add-places-spec : {M : Type 1} → statement M
 add-places-spec =
     tie.close
     (tie.spec
-    invariant-loop decreases-loop (λ c. search rules) (λ c κs. search rules) (λ c. (search rules, adding-none c.before.before.add.ensures)) (λ c. search rules)
+    invariant-loop decreases-loop (λ c. search rules) (λ c κs. search rules) (λ c. (search rules, adding_none c.before.before.add.ensures)) (λ c. search rules)
     (λ c. search rules) (λ c κs. search rules) (λ c. search rules) (λ c. search rules) loop-again (λ c. search rules)
-    (λ c. adding-end c.before.before.before.before.add.ensures c.before.loop.invariant.1 (search rules)))
+    (λ c. adding_end c.before.before.before.before.add.ensures c.before.loop.invariant.1 (search rules)))

@@ -6,8 +6,8 @@ use borrow.Author.Rules.{rules}
 use lib.Dec.{lit<}
 use lib.ListN.{get_or}
 use Rattle.common.specs.Lists.{number}
-use Rattle.common.proofs.NumberLaws.{number_more, number-room}
-use Rattle.vectors.specs.MergeText.{keyIn}
+use Rattle.common.proofs.NumberLaws.{number_more, number_room}
+use Rattle.vectors.specs.MergeText.{key_in}
 use Rattle.vectors.proofs.answer.merge.key_in.Statement.{statement}
 use Rattle.vectors.proofs.answer.merge.key_in.Tie as tie
 
@@ -19,7 +19,7 @@ decreases-loop s k₀ j₀ k j = 8 - j
 
 -- the number with byte j has 64 bits
 room : (c : tie.At-loop invariant-loop decreases-loop) → c.loop.j < 8 → c.loop.k * 256 + get_or c.before.before.args.s.now c.loop.j 0 < 256 ^ 8
-room c h = number-room 256 8 (λ i. get_or c.before.before.args.s.now i 0) (lit< tt) (λ i. (c.before.shared-slice-known.given i).fits) c.loop.j h c.loop.invariant.1
+room c h = number_room 256 8 (λ i. get_or c.before.before.args.s.now i 0) (lit< tt) (λ i. (c.before.shared-slice-known.given i).fits) c.loop.j h c.loop.invariant.1
 
 mul-k : tie.Need-overflow-mul-k invariant-loop decreases-loop
 mul-k c = omega (arith, room c.before (omega arith))
@@ -33,7 +33,7 @@ loop-again c =
     (search rules, ap (λ (x : ℕ). turn.loop.k * 256 + x) c.byte.ensures ∙ number_more 256 (λ i. get_or turn.before.before.args.s.now i 0) _ turn.loop.invariant.1)
 
 returns : tie.Need-returns invariant-loop decreases-loop
-unfolding keyIn
+unfolding key_in
 returns c = let e : c.before.loop.j ≡ 8 = omega arith in rw e at c.before.loop.invariant.1
 
 pub key-in-spec : {M : Type 1} → statement M

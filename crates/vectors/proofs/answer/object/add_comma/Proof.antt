@@ -2,19 +2,19 @@
 use borrow.Author.Rules.{rules}
 use borrow.Author.Tests.{eq-eqb, ne_eqb}
 use Rattle.append.proofs.AppendLaws.{when, unless}
-use Rattle.vectors.specs.ObjectText.{commaBefore}
+use Rattle.vectors.specs.ObjectText.{comma_before}
 use Rattle.vectors.proofs.answer.object.add_comma.Statement.{statement}
 use Rattle.vectors.proofs.answer.object.add_comma.Tie as tie
 
 returns : tie.Need-returns
-unfolding commaBefore
+unfolding comma_before
 returns c =
     let at-add = c.before.before in
     let test = at-add.before.before.before in
     when _ (eq-eqb _ _ test.if1.true) at-add.add.ensures
 
 returns-2 : tie.Need-returns-2
-unfolding commaBefore
+unfolding comma_before
 returns-2 c =
     let at-add2 = c.before.before in
     let test = at-add2.before.before.before in

@@ -1,11 +1,11 @@
 -- `vectors::answer::object::add_date` meets its contract: by the date's case. Assumes nothing.
 use borrow.Author.Rules.{rules}
-use Rattle.vectors.specs.ObjectText.{dateText}
+use Rattle.vectors.specs.ObjectText.{date_text}
 use Rattle.vectors.proofs.answer.object.add_date.Statement.{statement}
 use Rattle.vectors.proofs.answer.object.add_date.Tie as tie
 
 returns : tie.Need-returns
-unfolding dateText
+unfolding date_text
 returns c =
     let at-add-decimal = c.before.before in
     let at_n = at-add-decimal.before.before.before in
@@ -13,7 +13,7 @@ returns c =
     rw (← at_read.read.ensures, at_n.n.given.1) at-add-decimal.add-decimal.ensures
 
 returns-2 : tie.Need-returns-2
-unfolding dateText
+unfolding date_text
 returns-2 c =
     let at-add-cause = c.before.before in
     let at-enum-told = at-add-cause.before.before in

@@ -1,12 +1,12 @@
 -- `vectors::answer::object::add_field` meets its contract: three texts. Assumes nothing.
 use borrow.Author.Rules.{rules}
 use Rattle.append.proofs.AppendLaws.{◌then◌}
-use Rattle.vectors.specs.ObjectText.{fieldText}
+use Rattle.vectors.specs.ObjectText.{field_text}
 use Rattle.vectors.proofs.answer.object.add_field.Statement.{statement}
 use Rattle.vectors.proofs.answer.object.add_field.Tie as tie
 
 returns : tie.Need-returns
-unfolding fieldText
+unfolding field_text
 returns c =
     let at-add-part = c.before.before in
     let at-add-hex = at-add-part.before.before.before.before in

@@ -1,6 +1,6 @@
 -- `vectors::answer::object::add_header` meets its contract: by the header's case. Assumes nothing.
 use borrow.Author.Rules.{rules}
-use Rattle.vectors.specs.ObjectText.{textOfHeader}
+use Rattle.vectors.specs.ObjectText.{text_of_header}
 use Rattle.vectors.proofs.answer.object.add_header.Statement.{statement}
 use Rattle.vectors.proofs.answer.object.add_header.Tie as tie
 
@@ -12,7 +12,7 @@ returns c =
     rw (← at-header-of.header_of.ensures, at_tag.tag.given.1) at-add-whole.add-whole.ensures
 
 returns-2 : tie.Need-returns-2
-unfolding textOfHeader
+unfolding text_of_header
 returns-2 c =
     let at-add = c.before.before in
     let at-enum-told = at-add.before.before.before in

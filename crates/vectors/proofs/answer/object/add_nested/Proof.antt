@@ -1,19 +1,19 @@
 -- `vectors::answer::object::add_nested` meets its contract: one text or the other. Assumes nothing.
 use borrow.Author.Rules.{rules}
 use Rattle.append.proofs.AppendLaws.{when, unless}
-use Rattle.vectors.specs.ObjectText.{nestedText}
+use Rattle.vectors.specs.ObjectText.{nested_text}
 use Rattle.vectors.proofs.answer.object.add_nested.Statement.{statement}
 use Rattle.vectors.proofs.answer.object.add_nested.Tie as tie
 
 returns : tie.Need-returns
-unfolding nestedText
+unfolding nested_text
 returns c =
     let at-add = c.before.before in
     let test = at-add.before.before.before in
     when _ test.if1.true at-add.add.ensures
 
 returns-2 : tie.Need-returns-2
-unfolding nestedText
+unfolding nested_text
 returns-2 c =
     let at-add2 = c.before.before in
     let test = at-add2.before.before.before in

@@ -2,19 +2,19 @@
 use borrow.Author.Rules.{rules}
 use borrow.Author.Tests.{eq-eqb, ne_eqb}
 use Rattle.append.proofs.AppendLaws.{when, unless}
-use Rattle.vectors.specs.ObjectText.{partText}
+use Rattle.vectors.specs.ObjectText.{part_text}
 use Rattle.vectors.proofs.answer.object.add_part.Statement.{statement}
 use Rattle.vectors.proofs.answer.object.add_part.Tie as tie
 
 returns : tie.Need-returns
-unfolding partText
+unfolding part_text
 returns c =
     let at-add = c.before.before in
     let test = at-add.before.before.before in
     when _ (eq-eqb _ _ test.if1.true) at-add.add.ensures
 
 returns-2 : tie.Need-returns-2
-unfolding partText
+unfolding part_text
 returns-2 c =
     let at-add-place = c.before.before in
     let test = at-add-place.before.before.before.before in

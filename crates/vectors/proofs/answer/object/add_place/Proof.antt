@@ -1,12 +1,12 @@
 -- `vectors::answer::object::add_place` meets its contract: four texts. Assumes nothing.
 use borrow.Author.Rules.{rules}
 use Rattle.append.proofs.AppendLaws.{◌then◌}
-use Rattle.vectors.specs.ObjectText.{placeText}
+use Rattle.vectors.specs.ObjectText.{place_text}
 use Rattle.vectors.proofs.answer.object.add_place.Statement.{statement}
 use Rattle.vectors.proofs.answer.object.add_place.Tie as tie
 
 returns : tie.Need-returns
-unfolding placeText
+unfolding place_text
 returns c =
     let at-add-decimal2 = c.before.before in
     let at-add2 = at-add-decimal2.before.before.before.before in

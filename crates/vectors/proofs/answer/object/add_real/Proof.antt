@@ -6,9 +6,9 @@ use borrow.Author.Tests.{eqb-true}
 use lib.Dec.{eqb}
 use lib.ListN.{length}
 use Rattle.common.specs.Lists.{all}
-use Rattle.card.specs.Date.{realDate}
+use Rattle.card.specs.Date.{real_date}
 use Rattle.append.proofs.AppendLaws.{same_text, when, unless}
-use Rattle.vectors.specs.ObjectText.{decimalPair, textOfReal, realText}
+use Rattle.vectors.specs.ObjectText.{decimal_pair, text_of_real, real_text}
 use Rattle.common.proofs.TestLaws.{and_left}
 use Rattle.vectors.proofs.answer.object.add_real.Statement.{statement}
 use Rattle.vectors.proofs.answer.object.add_real.Tie as tie
@@ -20,7 +20,7 @@ eight-digits-requires c κs =
     eqb-true _ _ (and_left (eqb (length start.args.s.now) 4) at-all-decimal.all-decimal.result c.before.if1.true)
 
 returns : tie.Need-returns
-unfolding realText
+unfolding real_text
 returns c =
     let at-add-real-or-not = c.before.before in
     let at-real = at-add-real-or-not.before in
@@ -29,18 +29,18 @@ returns c =
     let at-all-decimal = test'.before in
     let start = at-all-decimal.before.before.before in
     let s = start.args.s.now in
-    let test : eqb (length s) 4 && all (length s) (decimalPair s) ≡ true = rw (← at-all-decimal.all-decimal.ensures) test'.if1.true in
-    when _ test (same_text (ap textOfReal (at-real.real.ensures ∙ ap realDate at-eight-digits.eight-digits.ensures)) at-add-real-or-not.add-real-or-not.ensures)
+    let test : eqb (length s) 4 && all (length s) (decimal_pair s) ≡ true = rw (← at-all-decimal.all-decimal.ensures) test'.if1.true in
+    when _ test (same_text (ap text_of_real (at-real.real.ensures ∙ ap real_date at-eight-digits.eight-digits.ensures)) at-add-real-or-not.add-real-or-not.ensures)
 
 returns-2 : tie.Need-returns-2
-unfolding realText
+unfolding real_text
 returns-2 c =
     let at-add-no-vector = c.before.before in
     let test' = at-add-no-vector.before.before in
     let at-all-decimal = test'.before in
     let start = at-all-decimal.before.before.before in
     let s = start.args.s.now in
-    let test : eqb (length s) 4 && all (length s) (decimalPair s) ≡ false = rw (← at-all-decimal.all-decimal.ensures) test'.if1.false in
+    let test : eqb (length s) 4 && all (length s) (decimal_pair s) ≡ false = rw (← at-all-decimal.all-decimal.ensures) test'.if1.false in
     unless _ test at-add-no-vector.add-no-vector.ensures
 
 pub add-real-spec : {M : Type 1} → statement M

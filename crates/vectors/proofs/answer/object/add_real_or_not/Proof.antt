@@ -1,19 +1,19 @@
 -- `vectors::answer::object::add_real_or_not` meets its contract: one text or the other. Assumes nothing.
 use borrow.Author.Rules.{rules}
 use Rattle.append.proofs.AppendLaws.{when, unless}
-use Rattle.vectors.specs.ObjectText.{textOfReal}
+use Rattle.vectors.specs.ObjectText.{text_of_real}
 use Rattle.vectors.proofs.answer.object.add_real_or_not.Statement.{statement}
 use Rattle.vectors.proofs.answer.object.add_real_or_not.Tie as tie
 
 returns : tie.Need-returns
-unfolding textOfReal
+unfolding text_of_real
 returns c =
     let at-add = c.before.before in
     let test = at-add.before.before.before in
     when _ test.if1.true at-add.add.ensures
 
 returns-2 : tie.Need-returns-2
-unfolding textOfReal
+unfolding text_of_real
 returns-2 c =
     let at-add2 = c.before.before in
     let test = at-add2.before.before.before in

@@ -6,32 +6,32 @@ use native.Mathlib.Omega.{arith}
 use borrow.Author.Rules.{rules}
 use borrow.Author.Tests.{lt-ltb, le-ltb}
 use Rattle.common.specs.Lists.{list_of}
-use Rattle.card.specs.Tlv.{tagBytes}
-use Rattle.text.specs.Hex.{hexOf, hexDigitAt, hexDigit}
+use Rattle.card.specs.Tlv.{tag_bytes}
+use Rattle.text.specs.Hex.{hex_of, hex_digit_at, hex_digit}
 use Rattle.append.proofs.AppendLaws.{same_text}
 use Rattle.vectors.proofs.answer.object.add_tag.Statement.{statement}
 use Rattle.vectors.proofs.answer.object.add_tag.Tie as tie
 
 -- a byte's digits are those of any number that it is the low byte of
-low_byte : (x y z : ℕ) → hexOf (x % 256 ∷ y ∷ z ∷ []) ≡ hexOf (x ∷ y ∷ z ∷ [])
-unfolding hexOf list_of hexDigitAt hexDigit
+low_byte : (x y z : ℕ) → hex_of (x % 256 ∷ y ∷ z ∷ []) ≡ hex_of (x ∷ y ∷ z ∷ [])
+unfolding hex_of list_of hex_digit_at hex_digit
 low_byte x y z =
     let h : x % 256 / 16 % 16 ≡ x / 16 % 16 = omega arith in
     let l : x % 256 % 16 ≡ x % 16 = omega arith in
     rw (h, l)
 
 returns : tie.Need-returns
-unfolding tagBytes
+unfolding tag_bytes
 returns c =
     let at-add-hex = c.before.before in
     let test = at-add-hex.before.before.before in
     let start = test.before.before in
     let h = test.if1.true in
     let e : start.args.tag % 256 ≡ start.args.tag = omega (arith, h) in
-    rw (lt-ltb _ _ h) (same_text (ap (λ (x : ℕ). hexOf (x ∷ [])) e) at-add-hex.add-hex.ensures)
+    rw (lt-ltb _ _ h) (same_text (ap (λ (x : ℕ). hex_of (x ∷ [])) e) at-add-hex.add-hex.ensures)
 
 returns-2 : tie.Need-returns-2
-unfolding tagBytes
+unfolding tag_bytes
 returns-2 c =
     let at-add-hex2 = c.before.before in
     let test2 = at-add-hex2.before.before.before in
@@ -39,10 +39,10 @@ returns-2 c =
     let start = test.before.before in
     let h = test2.if2.true in
     let e : start.args.tag / 256 % 256 ≡ start.args.tag / 256 = omega (arith, h) in
-    rw (le-ltb _ _ test.if1.false, lt-ltb _ _ h) (same_text (ap (λ (x : ℕ). hexOf (x ∷ start.args.tag % 256 ∷ [])) e) at-add-hex2.add-hex2.ensures)
+    rw (le-ltb _ _ test.if1.false, lt-ltb _ _ h) (same_text (ap (λ (x : ℕ). hex_of (x ∷ start.args.tag % 256 ∷ [])) e) at-add-hex2.add-hex2.ensures)
 
 returns-3 : tie.Need-returns-3
-unfolding tagBytes
+unfolding tag_bytes
 returns-3 c =
     let at-add-hex3 = c.before.before in
     let test2 = at-add-hex3.before.before.before in

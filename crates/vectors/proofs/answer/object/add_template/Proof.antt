@@ -3,12 +3,12 @@ use borrow.Author.Rules.{rules}
 use borrow.Author.Tests.{eq-eqb, ne_eqb}
 use Rattle.common.specs.Lists.{number}
 use Rattle.append.proofs.AppendLaws.{when, unless}
-use Rattle.vectors.specs.ObjectText.{templateText}
+use Rattle.vectors.specs.ObjectText.{template_text}
 use Rattle.vectors.proofs.answer.object.add_template.Statement.{statement}
 use Rattle.vectors.proofs.answer.object.add_template.Tie as tie
 
 returns : tie.Need-returns
-unfolding templateText
+unfolding template_text
 returns c =
     let at-add-cause = c.before.before in
     let test = at-add-cause.before.before in
@@ -17,7 +17,7 @@ returns c =
     rw (← at-template.template.ensures, ← at-number.number.ensures) (unless _ (ne_eqb _ _ test.if1.true) at-add-cause.add-cause.ensures)
 
 returns-2 : tie.Need-returns-2
-unfolding templateText
+unfolding template_text
 returns-2 c =
     let at-add = c.before.before in
     let test = at-add.before.before.before in

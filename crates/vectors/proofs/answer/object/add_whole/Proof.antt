@@ -1,12 +1,12 @@
 -- `vectors::answer::object::add_whole` meets its contract: four texts. Assumes nothing.
 use borrow.Author.Rules.{rules}
 use Rattle.append.proofs.AppendLaws.{◌then◌}
-use Rattle.vectors.specs.ObjectText.{textOfHeader}
+use Rattle.vectors.specs.ObjectText.{text_of_header}
 use Rattle.vectors.proofs.answer.object.add_whole.Statement.{statement}
 use Rattle.vectors.proofs.answer.object.add_whole.Tie as tie
 
 returns : tie.Need-returns
-unfolding textOfHeader
+unfolding text_of_header
 returns c =
     let at-add-place = c.before.before in
     let at-add-nested = at-add-place.before.before.before.before in

@@ -2,12 +2,12 @@
 use native.Mathlib.Nat.{zero-add}
 use borrow.Author.Rules.{rules}
 use Rattle.common.specs.Lists.{number}
-use Rattle.vectors.specs.ObjectText.{eightDigits}
+use Rattle.vectors.specs.ObjectText.{eight_digits}
 use Rattle.vectors.proofs.answer.object.eight_digits.Statement.{statement}
 use Rattle.vectors.proofs.answer.object.eight_digits.Tie as tie
 
 returns : tie.Need-returns
-unfolding eightDigits number
+unfolding eight_digits number
 returns c =
     let at-two-digits3 = c.before.before in
     let at-two-digits2 = at-two-digits3.before.before in

@@ -1,11 +1,11 @@
 -- `vectors::answer::visual::add_looked_up` meets its contract: the line is cut at its first 00. Assumes nothing.
 use borrow.Author.Rules.{rules}
-use Rattle.vectors.specs.VisualText.{lookedUpText}
+use Rattle.vectors.specs.VisualText.{looked_up_text}
 use Rattle.vectors.proofs.answer.visual.add_looked_up.Statement.{statement}
 use Rattle.vectors.proofs.answer.visual.add_looked_up.Tie as tie
 
 returns : tie.Need-returns
-unfolding lookedUpText
+unfolding looked_up_text
 returns c =
     let at-add-lookup = c.before.before in
     let at-look-up = at-add-lookup.before.before in

@@ -1,12 +1,12 @@
 -- `vectors::answer::visual::add_malformed` meets its contract: three texts. Assumes nothing.
 use borrow.Author.Rules.{rules}
 use Rattle.append.proofs.AppendLaws.{◌then◌}
-use Rattle.vectors.specs.VisualText.{malformedText}
+use Rattle.vectors.specs.VisualText.{malformed_text}
 use Rattle.vectors.proofs.answer.visual.add_malformed.Statement.{statement}
 use Rattle.vectors.proofs.answer.visual.add_malformed.Tie as tie
 
 returns : tie.Need-returns
-unfolding malformedText
+unfolding malformed_text
 returns c =
     let at-add-decimal = c.before.before in
     let at-add = at-add-decimal.before.before.before.before in
