@@ -1,4 +1,6 @@
 // Text written into a lent buffer after what stands there: bytes, hexadecimal digits, and numbers in decimal.
+#![tactic(auto)]
+
 ghost use Rattle.text.specs.Hex.{hex_of};
 ghost use Rattle.append.specs.Append.{Added, number_text};
 

@@ -12,7 +12,7 @@ pub const AID_LEAST: usize = 5;
 pub const AID_MOST: usize = 16;
 
 // What a command answers: how many bytes it wrote, or why it wrote none. `command_answer` gives document 01's number and the count of each.
-#[derive(Drop)]
+#[derive(Clone, Copy)]
 pub enum CommandAnswer {
     Written(usize),
     // an AID that is not 5 to 16 bytes
@@ -116,7 +116,7 @@ pub fn get_response(second: u8, out: &mut [u8]) -> CommandAnswer
 }
 
 // What a status word says: 90 00, all is sent; 61 and a byte, more is to be asked for; 6C and a byte, send that again with this last byte; any other.
-#[derive(Drop)]
+#[derive(Clone, Copy)]
 pub enum Status {
     Done,
     More(u8),

@@ -9,7 +9,7 @@ pub(crate) const DATE_DIGITS: usize = 8;
 pub const ILL_FORMED_DATE: u8 = 22;
 
 // What date answers: the number YYYYMMDD, or that the bytes are no real date. `date_answer` gives document 01's cause of each.
-#[derive(Drop)]
+#[derive(Clone, Copy)]
 pub enum Date {
     Real(u32),
     Unreal,

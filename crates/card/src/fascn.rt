@@ -13,7 +13,7 @@ use crate::fascn::counts::{CHECK_PLACE, DIGITS, FASCN_BYTES, KEY_DIGITS};
 use common::slice;
 
 // What unpack answers: the digits, or the first fault of document 01's list. `unpack_number` gives the number of each.
-#[derive(Drop)]
+#[derive(Clone, Copy)]
 pub enum UnpackAnswer {
     Accepted,
     // not 25 bytes
@@ -42,14 +42,14 @@ impl UnpackAnswer {
 }
 
 // The 32 digits beside the answer; zeros where the bytes are refused.
-#[derive(Drop)]
+#[derive(Clone, Copy)]
 pub struct Unpacked {
     pub answer: UnpackAnswer,
     pub digits: [u8; DIGITS],
 }
 
 // What pack answers: the bytes, or that a digit is above 9. `pack_number` gives the number of each.
-#[derive(Drop)]
+#[derive(Clone, Copy)]
 pub enum PackAnswer {
     Accepted,
     // a digit above 9
@@ -69,7 +69,7 @@ impl PackAnswer {
 }
 
 // The 25 bytes beside the answer; zeros where the digits are refused.
-#[derive(Drop)]
+#[derive(Clone, Copy)]
 pub struct Packed {
     pub answer: PackAnswer,
     pub bytes: [u8; FASCN_BYTES],
@@ -77,7 +77,7 @@ pub struct Packed {
 
 // Document 01's key of a card: its first 16 digits as one whole number. A type of its own, so that no other number is
 // taken for one.
-#[derive(Drop)]
+#[derive(Clone, Copy)]
 pub struct Key(pub u64);
 
 impl Key {

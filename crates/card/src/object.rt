@@ -11,7 +11,7 @@ use crate::tlv::Header;
 use common::slice;
 
 // The objects that a reading asks for: 5FC102, 5FC104, DFC103 and DFC108.
-#[derive(Drop)]
+#[derive(Clone, Copy)]
 pub enum Kind {
     Signed,
     Unsigned,
@@ -47,7 +47,7 @@ pub const END_TAG: u8 = 0xFE;
 
 // A row of an object's layout: the field's tag, the least and the greatest length of its value, and whether it may be
 // absent.
-#[derive(Drop)]
+#[derive(Clone, Copy)]
 pub(crate) struct Row(pub u8, pub usize, pub usize, pub bool);
 
 // The rows with which the signed and the unsigned object begin; `first_rows` in the definitions.
@@ -73,14 +73,14 @@ pub const FIELDS: usize = 9;
 const NONE: Row = Row(0, 0, 0, false);
 
 // The first n are an object's rows.
-#[derive(Drop)]
+#[derive(Clone, Copy)]
 pub(crate) struct Layout {
     pub n: usize,
     pub rows: [Row; FIELDS],
 }
 
 // Where a field's value lies in the whole object. An absent field has the empty part, 0 and 0.
-#[derive(Drop)]
+#[derive(Clone, Copy)]
 pub struct Part {
     pub start: u32,
     pub len: u32,
@@ -89,7 +89,7 @@ pub struct Part {
 pub const EMPTY: Part = Part { start: 0, len: 0 };
 
 // A field read at a place: whether it is as its row asks, its part, and the place after it.
-#[derive(Drop)]
+#[derive(Clone, Copy)]
 pub(crate) struct Field {
     pub ok: bool,
     pub part: Part,
@@ -100,7 +100,7 @@ pub(crate) struct Field {
 pub const MALFORMED_OBJECT: u8 = 20;
 
 // What parse answers. `object_number` gives document 01's cause.
-#[derive(Drop)]
+#[derive(Clone, Copy)]
 pub enum ObjectAnswer {
     Accepted,
     Malformed,
@@ -121,7 +121,7 @@ impl ObjectAnswer {
 // The part of each field beside the answer, in the order of the rows, and empty parts past the last row; all are empty
 // where the object is malformed. The parts come first: an answer of one byte before them would put each off its
 // alignment.
-#[derive(Drop)]
+#[derive(Clone, Copy)]
 pub struct Object {
     pub parts: [Part; FIELDS],
     pub answer: ObjectAnswer,

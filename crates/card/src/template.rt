@@ -25,7 +25,7 @@ const LEVELS_LEFT: usize = 3;
 const MALFORMED_TEMPLATE: u8 = 19;
 
 // What template answers. `template_number` gives document 01's cause.
-#[derive(Drop)]
+#[derive(Clone, Copy)]
 pub enum TemplateAnswer {
     Accepted,
     Malformed,
@@ -59,7 +59,7 @@ fn note(aids: usize, tag: usize, len: usize) -> usize
 
 // What a walk finds: whether the bytes are whole TLVs to the depth left, and the 4Fs that they directly hold, by note;
 // 0 where they are not whole.
-#[derive(Drop)]
+#[derive(Clone, Copy)]
 pub(crate) struct Walked {
     pub whole: bool,
     pub aids: usize,

@@ -6,7 +6,7 @@ use common::slice;
 
 // A TLV that lies whole in the slice: its tag as a number, high byte first, whether its value is nested, where the
 // value starts, and its length.
-#[derive(Drop)]
+#[derive(Clone, Copy)]
 pub enum Header {
     Whole {
         tag: usize,

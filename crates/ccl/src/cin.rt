@@ -9,7 +9,7 @@ use common::number;
 
 // Document 02's CIN. A type of its own, whose number no other crate reads or sets: it comes from an entry, and is never
 // compared with a FASC-N key.
-#[derive(Drop)]
+#[derive(Clone, Copy)]
 pub struct Cin(pub(crate) u64);
 
 // The most digits of a CIN; `longest_cin` in the definitions.
@@ -19,7 +19,7 @@ pub(crate) const LONGEST_CIN: usize = 10;
 pub const BAD_ENTRY: u8 = 23;
 
 // What read_entry answers: the CIN, or that the entry is none. `entry_answer` gives document 02's number of each.
-#[derive(Drop)]
+#[derive(Clone, Copy)]
 pub enum Entry {
     Typed(Cin),
     Bad,
@@ -27,7 +27,7 @@ pub enum Entry {
 
 // The digits that some bytes begin with, as far as one more than a CIN may have: how many they are, and the number that
 // they spell. That number is a CIN's where the digits are 1 to 10.
-#[derive(Drop)]
+#[derive(Clone, Copy)]
 pub(crate) struct Digits {
     pub count: usize,
     pub number: u64,

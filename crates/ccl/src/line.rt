@@ -16,7 +16,7 @@ pub const LINE: usize = 32;
 pub const KEY_LIMIT: u64 = 10000000000000000;
 
 // What card_key answers: the key, or that the text is no card's. `card_answer` gives document 01's number of each.
-#[derive(Drop)]
+#[derive(Clone, Copy)]
 pub enum CardKey {
     Card(Key),
     Malformed,

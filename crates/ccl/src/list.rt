@@ -11,7 +11,7 @@ use text::form;
 
 // What read answers: how many keys, the number of the first malformed line, or that the places are too few.
 // `read_answer` gives document 01's number of each.
-#[derive(Drop)]
+#[derive(Clone, Copy)]
 pub enum ListRead {
     Keys(usize),
     Malformed(usize),
@@ -20,7 +20,7 @@ pub enum ListRead {
 
 // What write answers: how many keys, that a key has more than 16 digits, or that the buffer is too short. `write_answer`
 // gives document 01's number of each.
-#[derive(Drop)]
+#[derive(Clone, Copy)]
 pub enum ListWritten {
     Keys(usize),
     KeyTooLarge,

@@ -6,7 +6,7 @@ ghost use Rattle.ccl.specs.Merge.{ascending, merged, merge_answer, merge_of, mer
 
 // What merge answers: how many keys, that a list does not ascend strictly, or that the places are too few.
 // `merge_answer` gives document 02's number of each.
-#[derive(Drop)]
+#[derive(Clone, Copy)]
 pub enum ListMerged {
     Keys(usize),
     NotAscending,

@@ -14,7 +14,7 @@ pub const MALFORMED_VISUAL: u8 = 24;
 
 // What Cin::listed answers: whether the number is in the list, or the number of the first malformed line.
 // `lookup_answer` gives document 02's number of each.
-#[derive(Drop)]
+#[derive(Clone, Copy)]
 pub enum Lookup {
     Listed,
     NotListed,
@@ -22,7 +22,7 @@ pub enum Lookup {
 }
 
 // What look_up answers: the same, or that the entry is no CIN. `typed_answer` gives document 02's number of each.
-#[derive(Drop)]
+#[derive(Clone, Copy)]
 pub enum TypedLookup {
     Listed,
     NotListed,
@@ -63,7 +63,7 @@ const CLOSING: usize = 3;
 
 // The line that a text begins with: its count of bytes, 0 where it is malformed, and the number that its digits spell,
 // which counts for nothing then.
-#[derive(Drop)]
+#[derive(Clone, Copy)]
 struct FrontLine {
     size: usize,
     number: u64,

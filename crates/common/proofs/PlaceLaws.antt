@@ -10,7 +10,7 @@ use borrow.Author.Tests.{eqb-true}
 use lib.Dec.{eqb}
 use lib.ListN.{length, get_or, take}
 use lib.Seq.{take-suc}
-use Rattle.bytes.specs.Bytes.{index_after, index_of}
+use Rattle.common.specs.Bytes.{index_after, index_of}
 
 -- no byte is 0A
 abbrev pub NoEnd : List ℕ → Type 0

@@ -1,7 +1,7 @@
 // What all crates do with slices of bytes: one byte, the first bytes, those that follow them and those between, whether
 // two are equal, where a byte stands, and bytes stored from a place on.
 ghost use Rattle.std.specs.Prelude.{◌≡◌, not, ◌+◌, ◌≤◌, eqb, length, get_or, take, drop};
-ghost use Rattle.bytes.specs.Bytes.{index_of};
+ghost use Rattle.common.specs.Bytes.{index_of};
 ghost use Rattle.common.specs.Lists.{all, same_bytes, over_places_where};
 ghost use Rattle.common.specs.SliceCode.{block_size};
 
@@ -95,7 +95,10 @@ pub fn find(s: &[u8], from: usize, x: u8) -> usize
         return from;
     }
     let i = past_blocks(s, from, x);
-    bytes::scan::find(s, i, s.len(), x)
+    match s[i..].iter().position(|b| *b == x) {
+        Some(k) => i + k,
+        None => s.len(),
+    }
 }
 
 // How many bytes stand before the first x, all of them where there is none.
@@ -116,5 +119,6 @@ pub fn store(out: &mut [u8], at: usize, s: &[u8])
     if out.len() - at < s.len() {
         return;
     }
-    bytes::copy(s, &mut out[at..]);
+    let end = at + s.len();
+    out[at..end].copy_from_slice(s);
 }

@@ -1,4 +1,5 @@
 // The gate program (document 01, "List text and the gate program"): runs the lines of standard input, and prints each line's answer and the stamp at the end.
+#![tactic(auto)]
 
 fn main() {
     let mut input = [0u8; gate_stream::READ];

@@ -1,5 +1,6 @@
 // Runs the example scripts that its arguments name, each as the gate program would: prints the name, then what the gate program prints. The expected output, in
 // the file `stdout`, is written from the documents.
+#![tactic(auto)]
 
 fn run_script(i: usize, input: &mut [u8; gate_stream::READ], out: &mut [u8; gate_stream::OUT]) {
     let mut name = io::buffer();

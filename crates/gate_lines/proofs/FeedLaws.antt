@@ -7,7 +7,7 @@ use native.Mathlib.Nat.{add-zero, min-eq_left}
 use borrow.Author.Tests.{eq-eqb, ne_eqb, lt-ltb, le-ltb}
 use lib.ListN.{length, get_or, take, drop, drop_of_length-le}
 use Rattle.common.proofs.ListsLaws.{written_none}
-use Rattle.bytes.specs.Bytes.{index_after, index_of}
+use Rattle.common.specs.Bytes.{index_after, index_of}
 use Rattle.gate_lines.specs.Line.{line_in}
 use Rattle.gate_lines.specs.Gate.{Gate, gate_after, reply_to, reply_text}
 use Rattle.gate_lines.specs.GateCode.{cards_after}

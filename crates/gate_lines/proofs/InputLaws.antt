@@ -11,7 +11,7 @@ use lib.ListN.{length, get_or, take, drop, length-append, length-take, length-dr
 use lib.Seq.{take_all, take-nil, take_at, take-append-add, length-take-le, get_or-take, get_or-drop}
 use Rattle.common.specs.Lists.{list_of, written}
 use Rattle.common.proofs.ListsLaws.{length-list_of, list_of_is, written_none, length-written}
-use Rattle.bytes.specs.Bytes.{index_of}
+use Rattle.common.specs.Bytes.{index_of}
 use Rattle.gate_lines.proofs.LineLaws.{line_held}
 use Rattle.gate_lines.proofs.PrintedLaws.{run_printed, run_output}
 use Rattle.gate_lines.specs.Line.{longest, line_in}

@@ -3,7 +3,7 @@
 -- Assumes nothing.
 use Rattle.std.specs.Prelude.{cond, List, ℕ, ◌+◌, ◌-◌, min, eqb, ltb, length, get_or, take, drop}
 use Rattle.common.specs.Lists.{written}
-use Rattle.bytes.specs.Bytes.{index_of}
+use Rattle.common.specs.Bytes.{index_of}
 use Rattle.gate_lines.specs.Line.{line_in}
 use Rattle.gate_lines.specs.GateCode.{cards_after}
 use Rattle.gate_lines.specs.Input.{most_held}

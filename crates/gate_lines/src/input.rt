@@ -16,7 +16,7 @@ use session::figures::OBJECT;
 pub const HELD: usize = LONGEST + 1;
 
 // The state after a part of a block, how many bytes are held of a line that is not whole, how far the block is used, and what is printed.
-#[derive(Drop)]
+#[derive(Clone, Copy)]
 pub struct LineFed {
     pub state: State,
     pub held: usize,
@@ -25,7 +25,7 @@ pub struct LineFed {
 }
 
 // The state after the end of the input, and what is printed for a last line without 0A.
-#[derive(Drop)]
+#[derive(Clone, Copy)]
 pub struct Ended {
     pub state: State,
     pub text: Text,

@@ -20,7 +20,7 @@ pub(crate) const ANSWER_HEAD: usize = 8;
 pub(crate) const VERDICT_HEAD: usize = 13;
 
 // What a line is; the bytes that HEX spells are read from the line when they are needed. `line_by` gives the whole value.
-#[derive(Drop)]
+#[derive(Clone, Copy)]
 pub enum Line {
     // a card, with its key
     Card(Key),

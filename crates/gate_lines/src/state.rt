@@ -11,14 +11,14 @@ pub(crate) const STAMP_DIGITS: usize = 2 * STAMP;
 pub const TEXT: usize = 7 + STAMP_DIGITS + 2;
 
 // The session, dead where none is open, and how many cards were read. The cards' keys stand at the front of a buffer that is lent to each call.
-#[derive(Drop)]
+#[derive(Clone, Copy)]
 pub struct State {
     pub session: Session,
     pub cards: usize,
 }
 
 // What a line prints: `(ok)`, `(refused N)` or `(bad)`.
-#[derive(Drop)]
+#[derive(Clone, Copy)]
 pub enum LineReply {
     Ok,
     Refused(u8),
@@ -26,14 +26,14 @@ pub enum LineReply {
 }
 
 // The state after a line, and what the line prints.
-#[derive(Drop)]
+#[derive(Clone, Copy)]
 pub struct LineRun {
     pub state: State,
     pub reply: LineReply,
 }
 
 // Text to print: the first `len` bytes.
-#[derive(Drop)]
+#[derive(Clone, Copy)]
 pub struct Text {
     pub bytes: [u8; TEXT],
     pub len: usize,

@@ -4,6 +4,8 @@
 // the read gave; what is handed on to be written is the text of those bytes, whole; the program goes on while the number that the read gave is above 0 and the
 // write said that it was taken; and what is handed on at the end is the text of the definitions, or nothing where a read or a write failed. `one_block` alone
 // reads, `write_out` and `complain` alone write.
+#![tactic(auto)]
+
 ghost use Rattle.std.specs.Prelude.{◌≡◌, ◌+◌, ◌-◌, ◌*◌, ◌≤◌, ◌<◌, length, take, replicate};
 ghost use Rattle.common.specs.Lists.{over_front, over_places};
 ghost use Rattle.io.specs.Counts.{clamp_len};
@@ -30,7 +32,7 @@ pub const OUT: usize = READ * REPLY_MOST;
 
 // The program at some place of a block: its state, how many bytes of an unfinished line are held, how far the block is used, and how many bytes of text
 // stand in the buffer for it.
-#[derive(Drop)]
+#[derive(Clone, Copy)]
 struct BlockState {
     state: State,
     held: usize,
@@ -39,14 +41,14 @@ struct BlockState {
 }
 
 // How many bytes were handed on to be written, and whether standard output took them.
-#[derive(Drop)]
+#[derive(Clone, Copy)]
 pub struct Wrote {
     pub count: usize,
     pub taken: bool,
 }
 
 // The program between two blocks: its state, how many bytes of an unfinished line are held, what the last read gave, and what was written after it.
-#[derive(Drop)]
+#[derive(Clone, Copy)]
 struct InputRun {
     state: State,
     held: usize,
@@ -56,7 +58,7 @@ struct InputRun {
 
 // How the program ended: what the last read gave, whether standard output took what the lines print, and what was handed on at the end: the text of the end,
 // or nothing where a read or a write failed.
-#[derive(Drop)]
+#[derive(Clone, Copy)]
 pub struct Ending {
     pub got: isize,
     pub taken: bool,

@@ -57,7 +57,7 @@ pub extern "C" fn gate_key(digits: &[u8; DIGITS]) -> u64
 
 // Sizes in bytes: a session's image, the object buffer, a stamp; the most of a command and of an answer; the least and the most of an AID; a FASC-N, its digits, and a list line.
 #[repr(C)]
-#[derive(Drop)]
+#[derive(Clone, Copy)]
 pub struct Sizes {
     pub session: usize,
     pub object: usize,

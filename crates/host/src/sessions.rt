@@ -13,7 +13,7 @@ use session::state::Answered;
 
 // Where the value of a field lies in the object buffer.
 #[repr(C)]
-#[derive(Drop)]
+#[derive(Clone, Copy)]
 pub struct FieldPlace {
     pub start: usize,
     pub length: usize,

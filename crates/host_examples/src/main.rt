@@ -2,6 +2,8 @@
 // taken up again, and a cancelled list read from text. The expected lines, in the file `stdout`, are written from the documents; tools/run_hosts compares what the two hosts print with them.
 //
 // The functions of this file make calls and write; the text of each line is made by a proved function (src/line.rt).
+#![tactic(auto)]
+
 mod line;
 
 use common::{number, slice};

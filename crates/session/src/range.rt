@@ -51,7 +51,7 @@ fn expiry_in_range(n: u32) -> bool
 
 // The values that have ranges; `inside` says that the field parts are inside. They are few, so that a call hands these on, and not the whole session, for
 // its test: a session that is handed to a function is copied.
-#[derive(Drop)]
+#[derive(Clone, Copy)]
 pub(crate) struct Values {
     pub date: u32,
     pub expiry: u32,

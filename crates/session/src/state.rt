@@ -9,7 +9,7 @@ use card::object::{FIELDS, Part};
 
 // The command that is sent next: that of the step, SELECT or GET DATA; GET RESPONSE with the second status byte of the answer just taken; or one of the two again, after a
 // 6C, with the last byte that the card asked for.
-#[derive(Drop)]
+#[derive(Clone, Copy)]
 pub enum Next {
     Initial,
     GetResponse(u8),
@@ -18,7 +18,7 @@ pub enum Next {
 }
 
 // What the opening gave: mode, date as the number YYYYMMDD, and the AID, the first `aid_len` bytes.
-#[derive(Drop)]
+#[derive(Clone, Copy)]
 pub struct SessionOpening {
     pub mode: u8,
     pub date: u32,
@@ -28,7 +28,7 @@ pub struct SessionOpening {
 
 // Where the reading of the card stands: the step, how many bytes of its data are in the object buffer, whether a command is outstanding, the next command, and the
 // cause (16 to 22, or 0) with the status word of the answer that gave cause 16.
-#[derive(Drop)]
+#[derive(Clone, Copy)]
 pub struct SessionProgress {
     pub step: u8,
     pub filled: usize,
@@ -41,7 +41,7 @@ pub struct SessionProgress {
 
 // What steps 1 and 2 gave: FASC-N and expiry (0 before step 1's good end), and where fields lie in their step's data: those of step 1's object, in the order of its rows,
 // and of step 2's the one that can be asked for, BC.
-#[derive(Drop)]
+#[derive(Clone, Copy)]
 pub struct Card {
     pub fascn: [u8; FASCN_BYTES],
     pub expiry: u32,
@@ -50,7 +50,7 @@ pub struct Card {
 }
 
 // A session. Outcomes stand in the order of the checks: 0 unneeded, 1 awaited, 2 passed, 3 failed, 4 other card.
-#[derive(Drop)]
+#[derive(Clone, Copy)]
 pub struct Session {
     pub opening: SessionOpening,
     pub progress: SessionProgress,
@@ -59,7 +59,7 @@ pub struct Session {
 }
 
 // What a call answers. `reply_number` gives document 01's number of each case.
-#[derive(Drop)]
+#[derive(Clone, Copy)]
 pub enum Reply {
     Accepted,
     // open: mode not 1 to 6
@@ -118,14 +118,14 @@ impl Reply {
 }
 
 // The session that is handed back, and the answer.
-#[derive(Drop)]
+#[derive(Clone, Copy)]
 pub struct Answered {
     pub session: Session,
     pub reply: Reply,
 }
 
 // The same of a command call, with the count of bytes that it wrote; 0 where it is refused.
-#[derive(Drop)]
+#[derive(Clone, Copy)]
 pub struct Commanded {
     pub session: Session,
     pub reply: Reply,

@@ -10,7 +10,7 @@ use lib.ListN.{length, get_or, take, drop, length-drop, take-append-drop}
 use lib.Seq.{take_at, drop_at, take-add, take_all, get_or-drop, get_or-take, length-take-le}
 use Rattle.common.specs.Lists.{list_of, written, over_front, concat}
 use Rattle.common.proofs.ListsLaws.{length-list_of, list_of_is, front_written, front_after}
-use Rattle.bytes.specs.Bytes.{index_of}
+use Rattle.common.specs.Bytes.{index_of}
 use Rattle.common.proofs.PlaceLaws.{NoEnd, none_before, with_end}
 use Rattle.vectors.specs.FascnText.{codes_text}
 use Rattle.vectors.specs.Line.{line_text}

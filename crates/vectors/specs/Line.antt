@@ -2,7 +2,7 @@
 -- Assumes nothing.
 use Rattle.std.specs.Prelude.{cond, ◌&&◌, List, [], ◌∷◌, ◌++◌, ℕ, ◌+◌, ◌*◌, leb, length, take, drop}
 use Rattle.text.specs.Hex.{is_hex, bytes_in}
-use Rattle.bytes.specs.Bytes.{index_of}
+use Rattle.common.specs.Bytes.{index_of}
 use Rattle.vectors.specs.RefusalText.{no_vector}
 use Rattle.vectors.specs.Answer.{call_named, answer_text}
 

@@ -1,7 +1,7 @@
 -- The text of what the look-up of a typed number in a visual list says.
 -- Assumes nothing.
 use Rattle.std.specs.Prelude.{cond, List, [], ◌∷◌, ◌++◌, ℕ, ◌+◌, eqb, take, drop}
-use Rattle.bytes.specs.Bytes.{index_of}
+use Rattle.common.specs.Bytes.{index_of}
 use Rattle.ccl.specs.Visual.{malformed_visual, typed_of}
 use Rattle.append.specs.Append.{number_text}
 use Rattle.vectors.specs.RefusalText.{refusal_text}

@@ -20,7 +20,7 @@ use card::object::Kind;
 use common::slice;
 
 // A call. A number is the room of the buffer that a command is lent.
-#[derive(Drop)]
+#[derive(Clone, Copy)]
 pub(crate) enum VectorCall {
     Unknown,
     Unpack,

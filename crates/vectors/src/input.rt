@@ -8,7 +8,7 @@ use crate::line;
 use common::slice;
 
 // How many bytes of text stand in the buffer, and how many bytes of the block are used: the rest is no whole line.
-#[derive(Drop)]
+#[derive(Clone, Copy)]
 pub(crate) struct Lines {
     pub count: usize,
     pub used: usize,
@@ -55,7 +55,7 @@ pub(crate) fn keep(input: &mut [u8], from: usize, end: usize) -> usize
 }
 
 // How many bytes of text a block gives, and how many of its bytes are held: those of a line that is not whole yet.
-#[derive(Drop)]
+#[derive(Clone, Copy)]
 pub(crate) struct Used {
     pub text: usize,
     pub held: usize,

@@ -6,6 +6,8 @@
 //
 // The functions of this file read and write; what they hand on to be written is made by proved functions. What is read goes by blocks, and a line that does not
 // fit a block, a text that does not fit its buffer, or a read or a write that fails ends the program with a line on standard error.
+#![tactic(auto)]
+
 mod answer;
 mod input;
 mod line;
@@ -22,7 +24,7 @@ const BLOCK: usize = 65536;
 const TEXT: usize = 20 * BLOCK;
 
 // How many bytes are held at the front of the block, and whether the program goes on.
-#[derive(Drop)]
+#[derive(Clone, Copy)]
 struct Held {
     count: usize,
     more: bool,

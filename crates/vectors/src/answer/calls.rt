@@ -16,7 +16,7 @@ const HEAD: usize = 3;
 const ROOM: usize = 64;
 
 // A call, by the byte that names it; `direct_call` in the definitions.
-#[derive(Drop)]
+#[derive(Clone, Copy)]
 pub(crate) enum DirectCall {
     Open,
     Command,
@@ -29,7 +29,7 @@ pub(crate) enum DirectCall {
 }
 
 // The session after a call, and where its text ends.
-#[derive(Drop)]
+#[derive(Clone, Copy)]
 pub(crate) struct CallRun {
     pub session: Session,
     pub end: usize,

@@ -8,7 +8,7 @@ use native.Mathlib.Omega.{arith}
 use borrow.Author.Rules.{rules}
 use lib.ListN.{length, drop, drop_of_length-le}
 use lib.Seq.{take_all}
-use Rattle.bytes.specs.Bytes.{slice, index_of}
+use Rattle.common.specs.Bytes.{slice, index_of}
 use Rattle.common.proofs.slice.find.Statement.{statement}
 use Rattle.common.proofs.slice.find.Tie as tie
 

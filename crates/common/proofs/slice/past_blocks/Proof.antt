@@ -13,7 +13,7 @@ use lib.ListN.{length, get_or, drop}
 use lib.Seq.{drop-cons}
 use Rattle.common.specs.Lists.{all}
 use Rattle.common.proofs.ListsLaws.{all_at}
-use Rattle.bytes.specs.Bytes.{index_after, index_of}
+use Rattle.common.specs.Bytes.{index_after, index_of}
 use Rattle.common.proofs.slice.past_blocks.Statement.{statement}
 use Rattle.common.proofs.slice.past_blocks.Tie as tie
 

@@ -5,7 +5,7 @@ use Prim.Native.Nat.{◌+◌, ◌-◌, ◌≤◌, zero-le}
 use native.Mathlib.Omega.{arith}
 use borrow.Author.Rules.{rules}
 use lib.ListN.{length, take, drop}
-use Rattle.bytes.specs.Bytes.{index_of}
+use Rattle.common.specs.Bytes.{index_of}
 use Rattle.append.specs.Append.{Added}
 use Rattle.append.proofs.AppendLaws.{◌then◌, same_text, stays}
 use Rattle.vectors.specs.Input.{lines_text, rest_of}
