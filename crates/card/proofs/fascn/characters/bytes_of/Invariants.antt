@@ -1,0 +1,15 @@
+-- `card::fascn::characters::bytes_of` meets its contract: a turn stores the five bytes of eight characters. Assumes nothing.
+use mathlib.Core.Path.{refl}
+use Prim.Native.Nat.{◌-◌, ◌*◌}
+use borrow.Author.Rules.{rules}
+use lib.ListN.{replicate}
+use Rattle.common.proofs.LoopLaws.{WrittenSoFar, writing_none, writing_to, writing_whole}
+use Rattle.card.specs.FascnCode.{regrouped, bytes_of_chars}
+use Rattle.card.proofs.CharacterLaws.{regrouped_back}
+use Rattle.card.proofs.fascn.characters.bytes_of.Given as goal
+
+abbrev pub invariant-loop-g : goal.invariant-loop-g
+invariant-loop-g l = WrittenSoFar l.initial.s 0 25 (regrouped 5 8 l.c) (5 * l.g) l.s
+
+abbrev pub decreases-loop-g : goal.decreases-loop-g
+decreases-loop-g l = 5 - l.g

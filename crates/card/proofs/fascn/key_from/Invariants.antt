@@ -1,0 +1,20 @@
+-- `card::fascn::key_from` meets its contract: a turn adds a decimal digit. Assumes nothing.
+use mathlib.Core.Path.{◌≡◌, ap, ◌∙◌}
+use Prim.Native.Nat.{ℕ, ◌+◌, ◌-◌, ◌*◌, ◌^◌, ◌≤◌, ◌<◌}
+use native.Mathlib.Numerals.{add-one}
+use native.Mathlib.Omega.{arith}
+use borrow.Author.Rules.{rules}
+use lib.Dec.{lit<}
+use lib.ListN.{get_or}
+use Rattle.common.specs.Lists.{number}
+use Rattle.card.specs.Fascn.{key_of}
+use Rattle.common.proofs.NumberLaws.{number_more}
+use native.Mathlib.Nat.{pow-succ', pow-le-pow_right}
+use Rattle.card.proofs.fascn.key_from.Given as goal
+
+-- bytes above 9 are no digits, but fit: n is at most 29 * 10 ^ k - 29
+abbrev pub invariant-loop-k : goal.invariant-loop-k
+invariant-loop-k l = (l.k ≤ 16) × (l.n ≡ number 10 l.k (λ j. get_or l.d j 0)) × (l.n + 29 ≤ 29 * 10 ^ l.k)
+
+abbrev pub decreases-loop-k : goal.decreases-loop-k
+decreases-loop-k l = 16 - l.k

@@ -1,0 +1,16 @@
+-- `card::fascn::order::all_decimal` meets its contract: a turn adds its test. Assumes nothing.
+use mathlib.Core.Path.{refl}
+use Prim.Native.Nat.{◌-◌}
+use borrow.Author.Rules.{rules}
+use Rattle.common.proofs.LoopLaws.{TestedSoFar, testing_none, testing_more, testing_end}
+use Rattle.card.specs.Fascn.{decimal_at}
+use Rattle.card.proofs.fascn.order.all_decimal.Goals as goal
+
+pub loop-k-init : goal.loop-k-init
+loop-k-init c = testing_none
+
+pub loop-k-preserved : goal.loop-k-preserved
+loop-k-preserved c = testing_more c.loop-k.invariant (search rules) refl
+
+pub returns : goal.returns
+returns c = testing_end c.loop-k.invariant (search rules)

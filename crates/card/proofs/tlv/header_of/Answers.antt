@@ -1,0 +1,26 @@
+-- `card::tlv::header_of` meets its contract: the first bytes pick the size of the tag. Assumes nothing.
+use mathlib.Core.Path.{◌≡◌, sym, ◌∙◌}
+use mathlib.Core.List.{List}
+use Prim.Native.Nat.{ℕ, ◌+◌, ◌*◌, ◌%◌, ◌≤◌, ◌<◌}
+use native.Mathlib.Omega.{arith}
+use borrow.Author.Rules.{rules}
+use borrow.Author.Tests.{eq-eqb, ne_eqb, lt-ltb, le-ltb}
+use lib.ListN.{get_or}
+use Rattle.card.specs.Tlv.{tag_size, tag_number, nested_bit, after_tag, header_of}
+use Rattle.card.specs.declared.tlv.Header.TheVariants.{Malformed}
+use Rattle.card.proofs.tlv.header_of.Goals as goal
+
+-- the definition, size by size
+pub returns-then-a-ne31 : goal.returns-then-a-ne31
+returns-then-a-ne31 c = c.after_tag.ensures ∙ one _ c.byte-a.ensures c.if-a-ne31.true
+
+pub returns-then-b-lt128 : goal.returns-then-b-lt128
+returns-then-b-lt128 c = c.after_tag-then-b-lt128.ensures ∙ two _ c.byte-a.ensures c.if-a-ne31.false c.if-b-lt128.true c.byte-b.ensures
+
+pub returns-then-c-lt128 : goal.returns-then-c-lt128
+returns-then-c-lt128 c =
+    let low : c.byte-c.result < 128 = omega arith in
+    c.after_tag-then-c-lt128.ensures ∙ three _ c.byte-a.ensures c.if-a-ne31.false c.if-b-lt128.false low c.byte-b.ensures c.byte-c.ensures
+
+pub returns : goal.returns
+returns c = none _ c.byte-a.ensures c.if-a-ne31.false c.if-b-lt128.false c.if-c-lt128.false c.byte-b.ensures c.byte-c.ensures

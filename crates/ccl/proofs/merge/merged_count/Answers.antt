@@ -1,0 +1,62 @@
+-- `ccl::merge::merged_count` meets its contract: a turn uses the lower of the two next keys, and a key of both lists is
+-- used of both. Assumes nothing.
+use mathlib.Core.Path.{◌≡◌}
+use Prim.Native.Nat.{◌+◌, ◌-◌, ◌≤◌, ◌<◌}
+use native.Mathlib.Omega.{arith}
+use borrow.Author.Rules.{rules}
+use lib.ListN.{length}
+use Rattle.ccl.proofs.MergeCodeLaws.{Merging, left_of_both, merging_none, turn_first, turn_second, merging_end}
+use Rattle.ccl.proofs.merge.merged_count.Goals as goal
+
+-- each list has a key left
+keys-left : (c : tie.In-loop invariant-loop decreases-loop)
+    → let a = c.before.before.before.before.args in
+    let at = c.before.loop in
+    (at.i < length a.a.now) × (at.j < length a.b.now)
+keys-left c = let a = c.before.before.before.before.args in left_of_both a.a.now a.b.now _ _ c.loop-test.true
+
+pub loop-i-preserved-then-x-y : goal.loop-i-preserved-then-x-y
+loop-i-preserved-then-x-y c =
+    let e : c.loop-i.i + c.loop-i.j - c.loop-i.both + 1 ≡ c.loop-i.i + 1 + c.loop-i.j - c.loop-i.both = omega (arith, c.loop-i.invariant) in
+    (rw e c (turn_first c.loop-i.invariant.0 c.loop-i-test.true c.if-x-y.true).so_far, omega (arith, c.loop-i.invariant.1), c.loop-i.invariant.2)
+
+pub loop-i-preserved : goal.loop-i-preserved
+loop-i-preserved c =
+    let e : c.loop-i.i + c.loop-i.j - c.loop-i.both + 1 ≡ c.loop-i.i + c.one_where-same.result + (c.loop-i.j + 1) - (c.loop-i.both + c.one_where-same.result) = omega (arith, c.loop-i.invariant) in
+    (rw e c (turn_second c.loop-i.invariant.0 c.loop-i-test.true c.if-x-y.false c.one_where-same.ensures.is).so_far, omega (arith, c.loop-i.invariant.1), omega (arith, c.loop-i.invariant.2, c.one_where-same.ensures.inside))
+
+pub returns : goal.returns
+returns c = omega (arith, (merging_end c.loop-i.invariant.0 c.loop-i-test.false).0, c.loop-i.invariant.0.in_a, c.loop-i.invariant.0.in_b, c.loop-i.invariant.1, c.loop-i.invariant.2)
+
+pub loop-i-init : goal.loop-i-init
+loop-i-init c = (merging_none, omega arith, omega arith)
+
+pub offset_bounds-a-i : goal.offset_bounds-a-i
+offset_bounds-a-i c = search (rules, keys-left c)
+
+pub bounds-a-i : goal.bounds-a-i
+bounds-a-i c = (keys-left c).0
+
+pub offset_bounds-b-j : goal.offset_bounds-b-j
+offset_bounds-b-j c = search (rules, keys-left c)
+
+pub bounds-b-j : goal.bounds-b-j
+bounds-b-j c = (keys-left c).1
+
+pub overflow_add-i : goal.overflow_add-i
+overflow_add-i c = search (rules, keys-left c)
+
+pub loop-i-smaller-then-x-y : goal.loop-i-smaller-then-x-y
+loop-i-smaller-then-x-y c = search (rules, keys-left c)
+
+pub overflow_add-i-else-x-y : goal.overflow_add-i-else-x-y
+overflow_add-i-else-x-y c = search (rules, keys-left c)
+
+pub overflow_add-j : goal.overflow_add-j
+overflow_add-j c = search (rules, keys-left c)
+
+pub overflow_add-both : goal.overflow_add-both
+overflow_add-both c = search (rules, keys-left c)
+
+pub loop-i-smaller : goal.loop-i-smaller
+loop-i-smaller c = search (rules, keys-left c)

@@ -1,0 +1,90 @@
+-- `ccl::merge::put_merged` meets its contract: a turn stores the lower of the two next keys, and what is left follows.
+-- Assumes nothing.
+use mathlib.Core.Path.{◌≡◌}
+use mathlib.Core.Logic.{⊎_elim}
+use Prim.Native.Nat.{◌+◌, ◌-◌, ◌<◌}
+use borrow.Author.Rules.{rules}
+use lib.ListN.{length, get_or}
+use Rattle.common.proofs.LoopLaws.{WrittenSoFar, writing_none, writing_front}
+use Rattle.ccl.specs.Merge.{merged}
+use Rattle.ccl.proofs.MergeCodeLaws.{Merging, left_of_both, some_turn, merging_none, turn_first, turn_second, merging_end, merging_whole}
+use Rattle.ccl.proofs.merge.put_merged.Goals as goal
+
+-- each list has a key left, and so has the merged list
+keys-left : (c : tie.In-loop invariant-loop decreases-loop)
+    → let a = c.before.before.before.before.before.args in
+    let at = c.before.loop in
+    (at.i < length a.a.now) × (at.j < length a.b.now) × (at.k < length (merged a.a.now a.b.now))
+keys-left c =
+    let a = c.before.before.before.before.before.args in
+    let b = left_of_both a.a.now a.b.now _ _ c.loop-test.true in
+    (b.0, b.1, some_turn c.before.loop.invariant.0 c.loop-test.true)
+
+pub loop-i-preserved : goal.loop-i-preserved
+loop-i-preserved c =
+    ⊎_elim
+    (λ w. let t = turn_first c.loop-i.invariant.0 c.loop-i-test.true w.0.taken in rw (w.1, w.2, w.3) (t.so_far, writing_front c.loop-i.invariant.1 t.within t.next))
+    (λ w. let t = turn_second c.loop-i.invariant.0 c.loop-i-test.true w.0.left w.1.ensures.0 in rw (w.2, w.3, w.4) (t.so_far, writing_front c.loop-i.invariant.1 t.within t.next))
+    c.if-x-y.branch
+
+-- what is left of the two is left of the merged list
+end : (c : tie.After-loop invariant-loop decreases-loop)
+    → let a = c.before.before.before.before.before.args in
+    let at = c.before.loop in
+    at.k + (length a.a.now - at.i) + (length a.b.now - at.j) ≡ length (merged a.a.now a.b.now)
+end c = (merging_end c.before.loop.invariant.0 c.loop-test.false).0
+
+pub returns : goal.returns
+returns c =
+    merging_whole c.loop-i.invariant.0 c.loop-i-test.false c.loop-i.invariant.1 c.store_rest.ensures c.store_rest-2.ensures
+
+pub loop-i-init : goal.loop-i-init
+loop-i-init c = (merging_none, writing_none (search rules))
+
+pub offset_bounds-a-i : goal.offset_bounds-a-i
+offset_bounds-a-i c = search (rules, keys-left c)
+
+pub bounds-a-i : goal.bounds-a-i
+bounds-a-i c = (keys-left c).0
+
+pub offset_bounds-b-j : goal.offset_bounds-b-j
+offset_bounds-b-j c = search (rules, keys-left c)
+
+pub bounds-b-j : goal.bounds-b-j
+bounds-b-j c = (keys-left c).1
+
+pub offset_bounds-out-k : goal.offset_bounds-out-k
+offset_bounds-out-k c = search (rules, keys-left c)
+
+pub bounds-out-k : goal.bounds-out-k
+bounds-out-k c = search (rules, keys-left c)
+
+pub overflow_add-i : goal.overflow_add-i
+overflow_add-i c = search (rules, keys-left c)
+
+pub offset_bounds-out-k-else-x-y : goal.offset_bounds-out-k-else-x-y
+offset_bounds-out-k-else-x-y c = search (rules, keys-left c)
+
+pub bounds-out-k-else-x-y : goal.bounds-out-k-else-x-y
+bounds-out-k-else-x-y c = search (rules, keys-left c)
+
+pub overflow_add-i-else-x-y : goal.overflow_add-i-else-x-y
+overflow_add-i-else-x-y c = search (rules, keys-left c)
+
+pub overflow_add-j : goal.overflow_add-j
+overflow_add-j c = search (rules, keys-left c)
+
+pub overflow_add-k : goal.overflow_add-k
+overflow_add-k c = search (rules, keys-left c)
+
+pub loop-i-smaller : goal.loop-i-smaller
+loop-i-smaller c = search (rules, keys-left c)
+
+pub store_rest-requires : goal.store_rest-requires
+store_rest-requires c = search (rules, end c)
+
+pub overflow_add-k-2 : goal.overflow_add-k-2
+overflow_add-k-2 c = search (rules, end c)
+
+pub store_rest-requires-2 : goal.store_rest-requires-2
+store_rest-requires-2 c = search (rules, end c)

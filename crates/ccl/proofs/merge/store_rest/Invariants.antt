@@ -1,0 +1,13 @@
+-- `ccl::merge::store_rest` meets its contract: a turn stores a key. Assumes nothing.
+use mathlib.Core.Path.{refl}
+use Prim.Native.Nat.{◌+◌, ◌-◌}
+use borrow.Author.Rules.{rules}
+use lib.ListN.{length, get_or}
+use Rattle.common.proofs.LoopLaws.{WrittenSoFar, writing_none, writing_more, writing_end}
+use Rattle.ccl.proofs.merge.store_rest.Given as goal
+
+abbrev pub invariant-loop-i : goal.invariant-loop-i
+invariant-loop-i l = WrittenSoFar l.initial.out l.at (length l.keys - l.from) (λ j. get_or l.keys (l.from + j) 0) l.i l.out
+
+abbrev pub decreases-loop-i : goal.decreases-loop-i
+decreases-loop-i l = length l.keys - l.from - l.i

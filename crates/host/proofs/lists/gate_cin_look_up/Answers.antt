@@ -1,0 +1,15 @@
+-- `host::lists::gate_cin_look_up` meets its contract: the answer, its number and what stands beside it. Assumes nothing.
+use borrow.Author.Rules.{rules}
+use mathlib.Core.Path.{ap, ◌∙◌}
+use Prim.Native.Nat.{ℕ}
+use Rattle.host.proofs.lists.gate_cin_look_up.Goals as goal
+
+pub returns : goal.returns
+returns c =
+    let beside = c.beside-beside.ensures ∙ ap (λ (x : ℕ × ℕ). x.1) c.look_up-answer.ensures in (
+      c.number-n.ensures ∙ ap (λ (x : ℕ × ℕ). x.0) c.look_up-answer.ensures,
+      (
+        rw (← beside) c.write_where.ensures,
+        rw (← beside) c.write_where-2.ensures,
+      ),
+    )

@@ -1,0 +1,15 @@
+-- `host::lists::gate_list_write` meets its contract: the answer, its number and what stands beside it. Assumes nothing.
+use borrow.Author.Rules.{rules}
+use mathlib.Core.Path.{ap, ◌∙◌}
+use Prim.Native.Nat.{ℕ}
+use Rattle.host.proofs.lists.gate_list_write.Goals as goal
+
+pub returns : goal.returns
+returns c =
+    let beside = c.beside.ensures ∙ ap (λ (x : ℕ × ℕ). x.1) c.write-answer.ensures.result_value in (
+      c.number-n.ensures ∙ ap (λ (x : ℕ × ℕ). x.0) c.write-answer.ensures.result_value,
+      (
+        rw (← beside) c.write_where.ensures,
+        c.write-answer.ensures.out_after,
+      ),
+    )

@@ -1,0 +1,12 @@
+-- `session::state::Session::field` meets its contract: the value is cut out at its place. Assumes nothing.
+use borrow.Author.Rules.{rules}
+use mathlib.Core.Path.{ap, ◌∙◌}
+use Rattle.card.specs.Object.{bytes_at}
+use Rattle.session.proofs.CallLaws.{place_value, part_cut}
+use Rattle.session.proofs.CallPromiseLaws.{field_both}
+use Rattle.session.proofs.state.Session.field.Goals as goal
+
+pub returns : goal.returns
+returns c =
+    field_both c.args.self c.args.object.now c.args.tag _
+    (part_cut c.args.object.now c.place-place.result ∙ ap (bytes_at c.args.object.now) c.place-place.ensures.is ∙ place_value c.args.self c.args.object.now c.args.tag)

@@ -1,0 +1,20 @@
+-- `session::state::Session::stamp` meets its contract: the stamp is accepted or refused. Assumes nothing.
+use borrow.Author.Rules.{rules}
+use mathlib.Core.Path.{sym, ◌∙◌}
+use Rattle.session.proofs.CallLaws.{stamp_fits, stamp_accepted, stamp_refused}
+use Rattle.session.proofs.CallPromiseLaws.{stamp_all}
+use Rattle.session.specs.Operation.{stamp_answer}
+use Rattle.session.proofs.state.Session.stamp.Goals as goal
+
+pub write_stamp-requires : goal.write_stamp-requires
+write_stamp-requires c = stamp_fits _ _ (sym (c.number.ensures ∙ c.stamp_refusal-reply.ensures) ∙ c.if-number-eq0.true)
+
+pub returns-then-number-eq0 : goal.returns-then-number-eq0
+unfolding stamp_answer
+returns-then-number-eq0 c =
+    stamp_all _ _ _ (rw c.stamp_refusal-reply.ensures) (stamp_accepted c.args.self c.args.out.now c.stamp_refusal-reply.ensures (sym c.number.ensures ∙ c.if-number-eq0.true) c.write_stamp.ensures)
+
+pub returns-else-number-eq0 : goal.returns-else-number-eq0
+unfolding stamp_answer
+returns-else-number-eq0 c =
+    stamp_all _ _ _ (rw c.stamp_refusal-reply.ensures) (stamp_refused c.args.self c.args.out.now c.stamp_refusal-reply.ensures (λ e. c.if-number-eq0.false (c.number.ensures ∙ e)))

@@ -1,0 +1,16 @@
+-- `session::tables::needed_outcomes` meets its contract: a turn writes one outcome. Assumes nothing.
+use mathlib.Core.Path.{refl}
+use borrow.Author.Rules.{rules}
+use Prim.Native.Nat.{◌-◌}
+use Rattle.common.proofs.LoopLaws.{WrittenSoFar, writing_none, writing_front, writing_whole}
+use Rattle.session.specs.Tables.{checks, needed_at, needed_outcomes}
+use Rattle.session.proofs.tables.needed_outcomes.Goals as goal
+
+pub loop-i-init : goal.loop-i-init
+loop-i-init c = writing_none (search rules)
+
+pub loop-i-preserved : goal.loop-i-preserved
+loop-i-preserved c = writing_front c.loop-i.invariant (search rules) c.needed_at.ensures
+
+pub returns : goal.returns
+returns c = writing_whole c.loop-i.invariant (search rules) refl

@@ -1,0 +1,14 @@
+-- `text::hex::read` meets its contract: a turn stores byte i. Assumes nothing.
+use mathlib.Core.Path.{sym}
+use Prim.Native.Nat.{◌-◌}
+use borrow.Author.Rules.{rules}
+use lib.Seq.{length-take-le}
+use Rattle.common.proofs.LoopLaws.{WrittenSoFar, writing_none, writing_front, writing_end}
+use Rattle.text.specs.Hex.{byte_at}
+use Rattle.text.proofs.hex.read.Given as goal
+
+abbrev pub invariant-loop-i : goal.invariant-loop-i
+invariant-loop-i l = WrittenSoFar l.initial.out 0 l.n (byte_at l.s) l.i l.out
+
+abbrev pub decreases-loop-i : goal.decreases-loop-i
+decreases-loop-i l = l.n - l.i

@@ -1,0 +1,15 @@
+-- `text::hex::write` meets its contract: a turn stores digit i. Assumes nothing.
+use Prim.Native.Nat.{◌-◌}
+use borrow.Author.Rules.{rules}
+use Rattle.common.proofs.LoopLaws.{WrittenSoFar, writing_none, writing_front, writing_end}
+use Rattle.text.specs.Hex.{hex_digit_at}
+use Rattle.text.proofs.hex.write.Goals as goal
+
+pub loop-i-init : goal.loop-i-init
+loop-i-init c = writing_none (search rules)
+
+pub loop-i-preserved : goal.loop-i-preserved
+loop-i-preserved c = writing_front c.loop-i.invariant (search rules) c.digit_at.ensures
+
+pub returns : goal.returns
+returns c = record { is = c.twice_within-n.ensures.is; stores = writing_end c.loop-i.invariant (search rules) }
