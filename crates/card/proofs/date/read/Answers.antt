@@ -13,13 +13,14 @@ use Rattle.common.proofs.ListsLaws.{all_more}
 use Rattle.common.proofs.DecimalLaws.{spelled_more, spelled_room}
 use Rattle.card.proofs.DateLaws.{date_is, not_eight}
 use Rattle.card.proofs.date.read.Goals as goal
+use Rattle.card.proofs.date.read.Goals.{After-real, After-shared_slice_known-in-loop-i-1}
 
 pub returns-then-s-ne-DATE_DIGITS : goal.returns-then-s-ne-DATE_DIGITS
 returns-then-s-ne-DATE_DIGITS c = sym (not_eight _ c.if-s-ne-DATE_DIGITS.true)
 
 -- while digits are left to read, n is small
-small : (c : tie.After-shared-slice-known2 invariant-loop decreases-loop) → c.before.before.loop.n < 2 * 10 ^ 7
-small c = let at = c.before.before in spelled_room at.before.before.before.args.s.now at.loop.i 7 (omega arith) at.loop.invariant.1
+small : (c : goal.After-shared_slice_known-in-loop-i-1) → c.loop-i.n < 2 * 10 ^ 7
+small c = spelled_room c.args.s.now c.loop-i.i 7 (omega arith) c.loop-i.invariant.1
 
 pub loop-i-preserved : goal.loop-i-preserved
 unfolding is_digit_at
@@ -31,23 +32,21 @@ loop-i-preserved c =
     )
 
 -- after the loop, the two tests decide
-decided : (c : tie.After-real invariant-loop decreases-loop)
+decided : (c : goal.After-real)
     → let at = c.before.before in date_of at.before.before.before.args.s.now ≡ cond (at.loop.ok && c.real.result) (0, at.loop.n) (22, 0)
-decided c =
-    let at = c.before.before in
-    date_is at.before.before.before.args.s.now (omega arith) (omega arith) at.loop.invariant.1 at.loop.invariant.2 c.real.ensures
+decided c = date_is c.args.s.now (omega arith) (omega arith) c.loop-i.invariant.1 c.loop-i.invariant.2 c.real.ensures
 
 pub returns-then-ok-real : goal.returns-then-ok-real
-returns-then-ok-real c = rw (decided c, c.if-ok-real.true)
+returns-then-ok-real c = rw (decided (goal.at.returns-then-ok-real c).After-real, c.if-ok-real.true)
 
 pub returns-else-ok-real : goal.returns-else-ok-real
-returns-else-ok-real c = rw (decided c, c.if-ok-real.false)
+returns-else-ok-real c = rw (decided (goal.at.returns-else-ok-real c).After-real, c.if-ok-real.false)
 
 pub overflow_mul-n : goal.overflow_mul-n
-overflow_mul-n c = omega (arith, small c)
+overflow_mul-n c = omega (arith, small (goal.at.overflow_mul-n c).After-shared_slice_known-in-loop-i-1)
 
 pub overflow_cast-n : goal.overflow_cast-n
 overflow_cast-n c = omega arith
 
 pub overflow_add-n : goal.overflow_add-n
-overflow_add-n c = omega (arith, small c)
+overflow_add-n c = omega (arith, small (goal.at.overflow_add-n c).After-shared_slice_known-in-loop-i-1)

@@ -9,6 +9,7 @@ use Rattle.card.specs.Object.{most_fields, empty, rows_of, row_field, fields_fro
 use Rattle.card.specs.ObjectCode.{no_row}
 use Rattle.card.proofs.FieldLaws.{laid_out, row_at, Read, read_none, read_more, read_all}
 use Rattle.card.proofs.object.fields.Goals as goal
+use Rattle.card.proofs.object.fields.Goals.{After-loop-i}
 
 pub loop-i-preserved : goal.loop-i-preserved
 loop-i-preserved c =
@@ -21,19 +22,17 @@ loop-i-preserved c =
     )
 
 -- after the loop, the two tests decide
-decided : (c : tie.After-loop invariant-loop decreases-loop) → let at = c.before in
-    fields_answer (fields_from c.before.before.before.before.before.args.v.now c.before.before.before.before.before.args.base (rows_of c.before.before.before.before.before.args.kind) 0)
-    ≡ cond (at.loop.ok && eqb at.loop.at (length c.before.before.before.before.before.args.v.now)) (0, at.loop.parts) (20, replicate most_fields empty)
+decided : (c : goal.After-loop-i) → fields_answer (fields_from c.args.v.now c.args.base (rows_of c.args.kind) 0)
+    ≡ cond (c.loop-i.ok && eqb c.loop-i.at (length c.args.v.now)) (0, c.loop-i.parts) (20, replicate most_fields empty)
 decided c =
-    let l = c.before.before.before.layout_of in
-    let laid = laid_out c.before.before.before.before.before.args.kind l.ensures in
-    rw (← laid.0) (read_all c.before.loop.invariant.2 (omega (arith, ap length laid.0, laid.1)) (omega arith))
+    let laid = laid_out c.args.kind c.layout_of-l.ensures in
+    rw (← laid.0) (read_all c.loop-i.invariant.2 (omega (arith, ap length laid.0, laid.1)) (omega arith))
 
 pub returns-then-ok-at : goal.returns-then-ok-at
-returns-then-ok-at c = rw (decided c, c.if-ok-at.true)
+returns-then-ok-at c = rw (decided (goal.at.returns-then-ok-at c).After-loop-i, c.if-ok-at.true)
 
 pub returns-else-ok-at : goal.returns-else-ok-at
-returns-else-ok-at c = rw (decided c, c.if-ok-at.false)
+returns-else-ok-at c = rw (decided (goal.at.returns-else-ok-at c).After-loop-i, c.if-ok-at.false)
 
 pub layout_of-l-requires : goal.layout_of-l-requires
 layout_of-l-requires c = tt

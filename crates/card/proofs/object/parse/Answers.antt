@@ -9,20 +9,20 @@ use Rattle.card.specs.Object.{data_object_tag, object_from, object_of}
 use Rattle.card.specs.declared.tlv.Header.TheVariants.{Whole}
 use Rattle.card.proofs.TlvLaws.{value_length, only_is, header_small}
 use Rattle.card.proofs.object.parse.Goals as goal
-use Rattle.card.proofs.object.parse.Goals.{In-Whole-2}
+use Rattle.card.proofs.object.parse.Goals.{In-Whole}
 
 -- the TLV of the arm
-whole_is : (c : goal.In-Whole-2) → Whole c.in-Whole.tag c.in-Whole.nested c.in-Whole.start c.in-Whole.len ≡ only_of data_object_tag c.args.s.now
+whole_is : (c : goal.In-Whole) → Whole c.in-Whole.tag c.in-Whole.nested c.in-Whole.start c.in-Whole.len ≡ only_of data_object_tag c.args.s.now
 whole_is c = sym c.in-Whole.is ∙ c.only.ensures
 
 pub fields-requires : goal.fields-requires
 fields-requires c =
-    let e = only_is data_object_tag c.args.s.now (whole_is (goal.at.fields-requires c).In-Whole-2) in
+    let e = only_is data_object_tag c.args.s.now (whole_is (goal.at.fields-requires c).In-Whole) in
     omega (arith, e.2, ap length c.part.ensures, value_length c.args.s.now e.0, header_small c.args.s.now (λ i. (c.shared_slice_known-1.given i).fits) e.0)
 
 pub returns-in-Whole : goal.returns-in-Whole
 unfolding object_of object_from
-returns-in-Whole c = rw (← whole_is (goal.at.returns-in-Whole c).In-Whole-2, ← c.part.ensures) c.fields.ensures
+returns-in-Whole c = rw (← whole_is (goal.at.returns-in-Whole c).In-Whole, ← c.part.ensures) c.fields.ensures
 
 pub returns-in-Malformed : goal.returns-in-Malformed
 unfolding object_of object_from

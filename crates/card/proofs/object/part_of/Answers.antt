@@ -10,25 +10,25 @@ use Rattle.card.specs.Object.{most_fields, empty, part_in}
 use Rattle.card.specs.ObjectCode.{no_row}
 use Rattle.card.proofs.FieldLaws.{laid_out, row_at, part_none, part_here, part_end}
 use Rattle.card.proofs.object.part_of.Goals as goal
+use Rattle.card.proofs.object.part_of.Goals.{After-row-1}
 
 -- row i and part i stand at the front of what is left
-row_is : (c : tie.After-row invariant-loop decreases-loop) → let rs = take c.before.before.before.before.layout_of.result.n c.before.before.before.before.layout_of.result.rows in
-    drop c.before.before.loop.i rs ≡ get_or c.before.before.before.before.layout_of.result.rows c.before.before.loop.i no_row ∷ drop (c.before.before.loop.i + 1) rs
+row_is : (c : goal.After-row-1) → let rs = take c.layout_of-l.result.n c.layout_of-l.result.rows in
+    drop c.loop-i.i rs ≡ get_or c.layout_of-l.result.rows c.loop-i.i no_row ∷ drop (c.loop-i.i + 1) rs
 row_is c =
-    let l = c.before.before.before.before.layout_of in
-    let laid = laid_out _ l.ensures in
-    row_at l.result.rows l.result.n c.before.before.loop.i no_row laid.0 laid.1 (omega arith)
+    let laid = laid_out _ c.layout_of-l.ensures in
+    row_at c.layout_of-l.result.rows c.layout_of-l.result.n c.loop-i.i no_row laid.0 laid.1 (omega arith)
 
-part-is : (c : tie.After-row invariant-loop decreases-loop) → drop c.before.before.loop.i c.before.before.before.before.before.args.t2 ≡ get_or c.before.before.before.before.before.args.t2 c.before.before.loop.i empty ∷ drop (c.before.before.loop.i + 1) c.before.before.before.before.before.args.t2
-part-is c = rw (add-one) (drop-cons c.before.before.before.before.before.args.t2 c.before.before.loop.i empty (omega arith))
+part_is : (c : goal.After-row-1) → drop c.loop-i.i c.args.parts ≡ get_or c.args.parts c.loop-i.i empty ∷ drop (c.loop-i.i + 1) c.args.parts
+part_is c = rw (add-one) (drop-cons c.args.parts c.loop-i.i empty (omega arith))
 
 pub returns-then-row-tag : goal.returns-then-row-tag
 returns-then-row-tag c =
-    sym (rw (← (laid_out _ c.layout_of-l.ensures).0) (c.loop-i.invariant.2 ∙ part_here _ _ c.loop-i.i _ _ _ (row_is c) (part-is c) c.if-row-tag.true))
+    sym (rw (← (laid_out _ c.layout_of-l.ensures).0) (c.loop-i.invariant.2 ∙ part_here _ _ c.loop-i.i _ _ _ (row_is (goal.at.returns-then-row-tag c).After-row-1) (part_is (goal.at.returns-then-row-tag c).After-row-1) c.if-row-tag.true))
 
 pub loop-i-preserved : goal.loop-i-preserved
 loop-i-preserved c =
-    (omega arith, c.loop-i.invariant.1, c.loop-i.invariant.2 ∙ part_none _ _ c.loop-i.i _ _ _ (row_is c) (part-is c) c.if-row-tag.false)
+    (omega arith, c.loop-i.invariant.1, c.loop-i.invariant.2 ∙ part_none _ _ c.loop-i.i _ _ _ (row_is (goal.at.loop-i-preserved c).After-row-1) (part_is (goal.at.loop-i-preserved c).After-row-1) c.if-row-tag.false)
 
 pub returns : goal.returns
 returns c =

@@ -10,10 +10,10 @@ use Rattle.card.specs.TemplateCode.{walked}
 use Rattle.card.specs.declared.tlv.Header.TheVariants.{Whole}
 use Rattle.card.proofs.TemplateLaws.{good_is}
 use Rattle.card.proofs.template.template.Goals as goal
-use Rattle.card.proofs.template.template.Goals.{After-walk-found, In-Whole-2}
+use Rattle.card.proofs.template.template.Goals.{After-walk-found, In-Whole}
 
 -- the TLV of the arm
-whole_is : (c : goal.In-Whole-2) → Whole c.in-Whole.tag c.in-Whole.nested c.in-Whole.start c.in-Whole.len ≡ only_of template_tag c.args.s.now
+whole_is : (c : goal.In-Whole) → Whole c.in-Whole.tag c.in-Whole.nested c.in-Whole.start c.in-Whole.len ≡ only_of template_tag c.args.s.now
 whole_is c = sym c.in-Whole.is ∙ c.only.ensures
 
 -- after the walk its two findings decide

@@ -12,6 +12,24 @@ use Rattle.card.specs.declared.tlv.Header.TheVariants.{Malformed}
 use Rattle.card.proofs.tlv.after_tag.Goals as goal
 
 -- the definition, form by form
+module _ (s : List ℕ) (t tag : ℕ) (nested : Bool) {a : ℕ} (e : a ≡ get_or s t 0) where
+  one : a < 0x80 → ending_of s tag nested (t + 1) a ≡ after_tag s t tag nested
+  unfolding after_tag length_size length_of
+  one h = simp (sym e, lt-ltb a 0x80 h)
+
+  two : {b : ℕ} → 0x80 ≤ a → a ≡ 0x81 → b ≡ get_or s (t + 1) 0 → ending_of s tag nested (t + 2) b ≡ after_tag s t tag nested
+  unfolding after_tag length_size length_of
+  two h k f = simp (sym e, sym f, le-ltb a 0x80 h, eq-eqb a 0x81 k)
+
+  three : {b c : ℕ} → 0x80 ≤ a → (a ≡ 0x81 → ⊥) → a ≡ 0x82 → b ≡ get_or s (t + 1) 0 → c ≡ get_or s (t + 2) 0
+      → ending_of s tag nested (t + 3) (b * 256 + c) ≡ after_tag s t tag nested
+  unfolding after_tag length_size length_of
+  three h j k f g = simp (sym e, sym f, sym g, le-ltb a 0x80 h, ne_eqb a 0x81 j, eq-eqb a 0x82 k)
+
+  none : 0x80 ≤ a → (a ≡ 0x81 → ⊥) → (a ≡ 0x82 → ⊥) → Malformed ≡ after_tag s t tag nested
+  unfolding after_tag length_size
+  none h j k = simp (sym e, le-ltb a 0x80 h, ne_eqb a 0x81 j, ne_eqb a 0x82 k)
+
 pub returns-then-a-lt128 : goal.returns-then-a-lt128
 returns-then-a-lt128 c = let short : c.byte-a.result < 0x80 = omega arith in c.ending.ensures ∙ one c.args.s.now c.args.t c.args.tag c.args.nested c.byte-a.ensures short
 

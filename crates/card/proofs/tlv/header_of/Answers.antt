@@ -11,6 +11,24 @@ use Rattle.card.specs.declared.tlv.Header.TheVariants.{Malformed}
 use Rattle.card.proofs.tlv.header_of.Goals as goal
 
 -- the definition, size by size
+module _ (s : List ℕ) {a : ℕ} (e : a ≡ get_or s 0 0) where
+  one : (a % 32 ≡ 31 → ⊥) → after_tag s 1 a (nested_bit a) ≡ header_of s
+  unfolding header_of tag_size tag_number
+  one h = simp (sym e, ne_eqb (a % 32) 31 h)
+
+  two : {b : ℕ} → a % 32 ≡ 31 → b < 128 → b ≡ get_or s 1 0 → after_tag s 2 (a * 256 + b) (nested_bit a) ≡ header_of s
+  unfolding header_of tag_size tag_number
+  two {b} h k f = simp (sym e, sym f, eq-eqb (a % 32) 31 h, lt-ltb b 128 k)
+
+  three : {b c : ℕ} → a % 32 ≡ 31 → 128 ≤ b → c < 128 → b ≡ get_or s 1 0 → c ≡ get_or s 2 0
+      → after_tag s 3 (a * 65536 + b * 256 + c) (nested_bit a) ≡ header_of s
+  unfolding header_of tag_size tag_number
+  three {b} {c} h j k f g = simp (sym e, sym f, sym g, eq-eqb (a % 32) 31 h, le-ltb b 128 j, lt-ltb c 128 k)
+
+  none : {b c : ℕ} → a % 32 ≡ 31 → 128 ≤ b → 128 ≤ c → b ≡ get_or s 1 0 → c ≡ get_or s 2 0 → Malformed ≡ header_of s
+  unfolding header_of tag_size
+  none {b} {c} h j k f g = simp (sym e, sym f, sym g, eq-eqb (a % 32) 31 h, le-ltb b 128 j, le-ltb c 128 k)
+
 pub returns-then-a-ne31 : goal.returns-then-a-ne31
 returns-then-a-ne31 c = c.after_tag.ensures ∙ one _ c.byte-a.ensures c.if-a-ne31.true
 

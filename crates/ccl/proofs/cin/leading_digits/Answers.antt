@@ -12,20 +12,17 @@ use Rattle.ccl.specs.VisualCode.{leading_digits}
 use Rattle.common.proofs.PassingLaws.{passing_more, passing_stop}
 use Rattle.ccl.proofs.VisualCodeLaws.{leading_end}
 use Rattle.ccl.proofs.cin.leading_digits.Goals as goal
+use Rattle.ccl.proofs.cin.leading_digits.Goals.{At-loop-k}
 
 pub returns-then-not-x : goal.returns-then-not-x
 unfolding leading_digits is_digit_at
 returns-then-not-x c = record { count = sym (passing_stop (is_digit_at c.args.s.now) c.loop-k.k 11 (omega (arith, c.least-most.ensures.inside)) c.loop-k.invariant.2 c.if-not-x.true); spells = c.loop-k.invariant.1 }
 
--- while digits are left to read, n is small
-small : (c : tie.At-loop invariant-loop decreases-loop) → c.loop.k ≤ 10 → c.loop.n < 2 * 10 ^ 10
-small c h = spelled_room c.before.before.before.args.s.now c.loop.k 10 h c.loop.invariant.1
-
 pub overflow_mul-n : goal.overflow_mul-n
-overflow_mul-n c = omega (arith, small c (omega (arith, c.least-most.ensures.inside)))
+overflow_mul-n c = omega (arith, small (goal.at.overflow_mul-n c).At-loop-k (omega (arith, c.least-most.ensures.inside)))
 
 pub overflow_add-n : goal.overflow_add-n
-overflow_add-n c = omega (arith, small c (omega (arith, c.least-most.ensures.inside)))
+overflow_add-n c = omega (arith, small (goal.at.overflow_add-n c).At-loop-k (omega (arith, c.least-most.ensures.inside)))
 
 pub loop-k-preserved : goal.loop-k-preserved
 unfolding is_digit_at

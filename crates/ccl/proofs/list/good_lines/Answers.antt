@@ -12,26 +12,25 @@ use Rattle.ccl.specs.ListText.{line_at, good_lines}
 use Rattle.common.proofs.PassingLaws.{passing_more, passing_stop}
 use Rattle.ccl.proofs.LinesLaws.{part_line}
 use Rattle.ccl.proofs.list.good_lines.Goals as goal
+use Rattle.ccl.proofs.list.good_lines.Goals.{After-between}
 
 pub loop-n-init : goal.loop-n-init
 unfolding passing
 loop-n-init c = (search rules, refl)
 
 -- the two strings are the lines of the lowest and the highest key
-good_is : (c : tie.After-between invariant-loop decreases-loop)
+good_is : (c : goal.After-between)
     → let at = c.before.before.before.before.before in good_line (line_at at.before.before.before.before.args.text.now at.loop.n) ≡ c.between.result
 unfolding good_line line_of card_text list_of digit_of
-good_is c =
-    let at = c.before.before.before.before.before in
-    rw (← part_line at.before.before.before.before.args.text.now at.loop.n) (sym c.between.ensures)
+good_is c = rw (← part_line c.args.text.now c.loop-n.n) (sym c.between.ensures)
 
 pub returns-then-not-between : goal.returns-then-not-between
 unfolding good_lines
-returns-then-not-between c = record { value = sym (passing_stop (λ i. good_line (line_at c.args.text.now i)) c.loop-n.n (length c.args.text.now / 32) (omega arith) c.loop-n.invariant.1 (good_is c ∙ c.if-not-between.true)); inside = omega arith }
+returns-then-not-between c = record { value = sym (passing_stop (λ i. good_line (line_at c.args.text.now i)) c.loop-n.n (length c.args.text.now / 32) (omega arith) c.loop-n.invariant.1 (good_is (goal.at.returns-then-not-between c).After-between ∙ c.if-not-between.true)); inside = omega arith }
 
 pub loop-n-preserved : goal.loop-n-preserved
 loop-n-preserved c =
-    (omega arith, passing_more (λ i. good_line (line_at c.args.text.now i)) c.loop-n.n c.loop-n.invariant.1 (good_is c ∙ c.if-not-between.false))
+    (omega arith, passing_more (λ i. good_line (line_at c.args.text.now i)) c.loop-n.n c.loop-n.invariant.1 (good_is (goal.at.loop-n-preserved c).After-between ∙ c.if-not-between.false))
 
 pub returns : goal.returns
 unfolding good_lines

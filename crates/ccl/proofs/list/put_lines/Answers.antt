@@ -10,16 +10,16 @@ use Rattle.common.proofs.ListsLaws.{length_front}
 use Rattle.ccl.specs.ListText.{lines_of}
 use Rattle.ccl.proofs.LinesLaws.{length_first, line_over}
 use Rattle.ccl.proofs.list.put_lines.Goals as goal
+use Rattle.ccl.proofs.list.put_lines.Goals.{At-loop-i}
 
 pub loop-i-init : goal.loop-i-init
 unfolding lines_of over_front
 loop-i-init c = (search rules, refl, refl)
 
-length-out : (c : tie.At-loop invariant-loop decreases-loop) → length c.loop.out ≡ length c.before.before.before.args.out.now
-length-out c =
-    let a = c.before.before.before.args in
-    ap length c.loop.invariant.2
-    ∙ length_front (lines_of (take c.loop.i a.keys.now)) a.out.now (rw (length_first a.keys.now c.loop.i c.loop.invariant.0) (omega arith))
+length_out : (c : goal.At-loop-i) → length c.loop-i.out ≡ length c.args.out.now
+length_out c =
+    ap length c.loop-i.invariant.2
+    ∙ length_front (lines_of (take c.loop-i.i c.args.keys.now)) c.args.out.now (rw (length_first c.args.keys.now c.loop-i.i c.loop-i.invariant.0) (omega arith))
 
 pub loop-i-preserved : goal.loop-i-preserved
 loop-i-preserved c = (
@@ -43,4 +43,4 @@ pub loop-i-smaller : goal.loop-i-smaller
 loop-i-smaller c = omega arith
 
 pub shape_of-out : goal.shape_of-out
-shape_of-out c = length-out c
+shape_of-out c = length_out (goal.at.shape_of-out c).At-loop-i

@@ -7,13 +7,14 @@ use borrow.Author.Rules.{rules}
 use lib.ListN.{length}
 use Rattle.ccl.proofs.MergeCodeLaws.{Merging, left_of_both, merging_none, turn_first, turn_second, merging_end}
 use Rattle.ccl.proofs.merge.merged_count.Goals as goal
+use Rattle.ccl.proofs.merge.merged_count.Goals.{In-loop-i}
 
 -- each list has a key left
-keys-left : (c : tie.In-loop invariant-loop decreases-loop)
+keys_left : (c : goal.In-loop-i)
     → let a = c.before.before.before.before.args in
     let at = c.before.loop in
     (at.i < length a.a.now) × (at.j < length a.b.now)
-keys-left c = let a = c.before.before.before.before.args in left_of_both a.a.now a.b.now _ _ c.loop-test.true
+keys_left c = left_of_both c.args.a.now c.args.b.now _ _ c.loop-i-test.true
 
 pub loop-i-preserved-then-x-y : goal.loop-i-preserved-then-x-y
 loop-i-preserved-then-x-y c =
@@ -32,31 +33,31 @@ pub loop-i-init : goal.loop-i-init
 loop-i-init c = (merging_none, omega arith, omega arith)
 
 pub offset_bounds-a-i : goal.offset_bounds-a-i
-offset_bounds-a-i c = search (rules, keys-left c)
+offset_bounds-a-i c = search (rules, keys_left (goal.at.offset_bounds-a-i c).In-loop-i)
 
 pub bounds-a-i : goal.bounds-a-i
-bounds-a-i c = (keys-left c).0
+bounds-a-i c = (keys_left (goal.at.bounds-a-i c).In-loop-i).0
 
 pub offset_bounds-b-j : goal.offset_bounds-b-j
-offset_bounds-b-j c = search (rules, keys-left c)
+offset_bounds-b-j c = search (rules, keys_left (goal.at.offset_bounds-b-j c).In-loop-i)
 
 pub bounds-b-j : goal.bounds-b-j
-bounds-b-j c = (keys-left c).1
+bounds-b-j c = (keys_left (goal.at.bounds-b-j c).In-loop-i).1
 
 pub overflow_add-i : goal.overflow_add-i
-overflow_add-i c = search (rules, keys-left c)
+overflow_add-i c = search (rules, keys_left (goal.at.overflow_add-i c).In-loop-i)
 
 pub loop-i-smaller-then-x-y : goal.loop-i-smaller-then-x-y
-loop-i-smaller-then-x-y c = search (rules, keys-left c)
+loop-i-smaller-then-x-y c = search (rules, keys_left (goal.at.loop-i-smaller-then-x-y c).In-loop-i)
 
 pub overflow_add-i-else-x-y : goal.overflow_add-i-else-x-y
-overflow_add-i-else-x-y c = search (rules, keys-left c)
+overflow_add-i-else-x-y c = search (rules, keys_left (goal.at.overflow_add-i-else-x-y c).In-loop-i)
 
 pub overflow_add-j : goal.overflow_add-j
-overflow_add-j c = search (rules, keys-left c)
+overflow_add-j c = search (rules, keys_left (goal.at.overflow_add-j c).In-loop-i)
 
 pub overflow_add-both : goal.overflow_add-both
-overflow_add-both c = search (rules, keys-left c)
+overflow_add-both c = search (rules, keys_left (goal.at.overflow_add-both c).In-loop-i)
 
 pub loop-i-smaller : goal.loop-i-smaller
-loop-i-smaller c = search (rules, keys-left c)
+loop-i-smaller c = search (rules, keys_left (goal.at.loop-i-smaller c).In-loop-i)

@@ -9,17 +9,18 @@ use Rattle.common.proofs.ListsLaws.{written_none, written_more}
 use Rattle.gate_lines.specs.Input.{most_held}
 use Rattle.gate_lines.specs.InputCode.{held_after, line_after}
 use Rattle.gate_lines.proofs.input.hold.Goals as goal
+use Rattle.gate_lines.proofs.input.hold.Goals.{After-held_after-most}
 
-most-is : (c : tie.After-held-after invariant-loop decreases-loop)
+most_is : (c : goal.After-held_after-most)
     → let a = c.before.before.before.args in c.held_after_lem.result ≡ a.held + min (a.end - a.from) (most_held - a.held)
 unfolding held_after
-most-is c = c.held_after_lem.ensures.0
+most_is c = c.held_after-most.ensures.is
 
 pub overflow_sub-j-end : goal.overflow_sub-j-end
-overflow_sub-j-end c = omega (arith, most-is c)
+overflow_sub-j-end c = omega (arith, most_is (goal.at.overflow_sub-j-end c).After-held_after-most)
 
 pub loop-j-init : goal.loop-j-init
-loop-j-init c = (most-is c, search rules, sym (written_none _ _ _), c.requires.2)
+loop-j-init c = (most_is (goal.at.loop-j-init c).After-held_after-most, search rules, sym (written_none _ _ _), c.requires.2)
 
 pub overflow_add-line : goal.overflow_add-line
 overflow_add-line c = omega (arith, c.loop-j.invariant.0)

@@ -9,10 +9,7 @@ use Rattle.common.specs.Lists.{number}
 use Rattle.common.specs.Decimal.{spelled}
 use Rattle.common.proofs.DecimalLaws.{spelled_more, spelled_room}
 use Rattle.gate_lines.proofs.line.date_in.Goals as goal
-
--- while digits are left to read, n is small
-small : (c : tie.At-loop invariant-loop decreases-loop) → c.loop.j < 8 → c.loop.n < 2 * 10 ^ 7
-small c h = spelled_room (drop 8 c.before.args.s.now) c.loop.j 7 (omega arith) c.loop.invariant.1
+use Rattle.gate_lines.proofs.line.date_in.Goals.{At-loop-j}
 
 pub loop-j-preserved : goal.loop-j-preserved
 loop-j-preserved c =
@@ -22,7 +19,7 @@ pub returns : goal.returns
 returns c = let e : c.loop-j.j ≡ 8 = omega arith in rw e at c.loop-j.invariant.1
 
 pub overflow_mul-n : goal.overflow_mul-n
-overflow_mul-n c = omega (arith, small c (omega arith))
+overflow_mul-n c = omega (arith, small (goal.at.overflow_mul-n c).At-loop-j (omega arith))
 
 pub overflow_add-n-in-loop-j : goal.overflow_add-n-in-loop-j
-overflow_add-n-in-loop-j c = omega (arith, small c (omega arith))
+overflow_add-n-in-loop-j c = omega (arith, small (goal.at.overflow_add-n-in-loop-j c).At-loop-j (omega arith))

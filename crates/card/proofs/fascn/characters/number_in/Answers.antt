@@ -8,20 +8,13 @@ use lib.ListN.{get_or}
 use Rattle.common.specs.Lists.{number}
 use Rattle.common.proofs.NumberLaws.{number_more, number_room}
 use Rattle.card.proofs.fascn.characters.number_in.Goals as goal
-
--- the number with digit j is below base ^ n
-room : (c : tie.At-loop invariant-loop decreases-loop) → c.loop.j < c.before.before.args.n
-    → let a = c.before.before.args in c.loop.w * a.base + get_or a.s.now (a.at + c.loop.j) 0 % a.base < a.base ^ a.n
-room c h =
-    let a = c.before.before.args in
-    let pos = c.before.before.requires.positive in
-    number_room a.base a.n (λ i. get_or a.s.now (a.at + i) 0 % a.base) pos (λ i. mod-lt _ pos) c.loop.j h c.loop.invariant.1
+use Rattle.card.proofs.fascn.characters.number_in.Goals.{At-loop-j}
 
 pub overflow_mul-w : goal.overflow_mul-w
-overflow_mul-w c = omega (arith, room c (omega arith))
+overflow_mul-w c = omega (arith, room (goal.at.overflow_mul-w c).At-loop-j (omega arith))
 
 pub overflow_add-w : goal.overflow_add-w
-overflow_add-w c = rw c.wide.ensures.0 (omega (arith, room c (omega arith)))
+overflow_add-w c = rw c.wide.ensures.0 (omega (arith, room (goal.at.overflow_add-w c).At-loop-j (omega arith)))
 
 pub loop-j-preserved : goal.loop-j-preserved
 loop-j-preserved c = (

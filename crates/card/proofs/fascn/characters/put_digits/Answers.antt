@@ -7,22 +7,23 @@ use borrow.Author.Rules.{rules}
 use lib.Pow.{pow_pos}
 use Rattle.common.proofs.LoopLaws.{WrittenSoFar, writing_none, writing_more, writing_end}
 use Rattle.card.proofs.fascn.characters.put_digits.Goals as goal
+use Rattle.card.proofs.fascn.characters.put_digits.Goals.{In-loop-j}
 
-shift-lt : (c : tie.In-loop invariant-loop decreases-loop) → c.before.before.args.bits * (c.before.before.args.n - 1 - c.before.loop.j) < 64
-shift-lt c = lt_of_le_of_lt (mul-le-mul_left c.before.before.args.bits (omega arith)) c.before.before.requires.shifts
+shift_lt : (c : goal.In-loop-j) → c.args.bits * (c.args.n - 1 - c.loop-j.j) < 64
+shift_lt c = lt_of_le_of_lt (mul-le-mul_left c.args.bits (omega arith)) c.requires.shifts
 
-base-pos : (c : tie.In-loop invariant-loop decreases-loop) → 0 < c.before.before.args.base
-base-pos c = rw c.before.before.requires.power (pow_pos c.before.before.args.bits)
+base_pos : (c : goal.In-loop-j) → 0 < c.args.base
+base_pos c = rw c.requires.power (pow_pos c.args.bits)
 
 pub overflow_cast-out : goal.overflow_cast-out
 overflow_cast-out c =
-    omega (arith, mod-lt (c.args.w / 2 ^ (c.args.bits * (c.args.n - 1 - c.loop-j.j))) (base-pos c))
+    omega (arith, mod-lt (c.args.w / 2 ^ (c.args.bits * (c.args.n - 1 - c.loop-j.j))) (base_pos (goal.at.overflow_cast-out c).In-loop-j))
 
 pub loop-j-init : goal.loop-j-init
 loop-j-init c = writing_none (search rules)
 
 pub overflow_mul-out : goal.overflow_mul-out
-overflow_mul-out c = omega (arith, shift-lt c)
+overflow_mul-out c = omega (arith, shift_lt (goal.at.overflow_mul-out c).In-loop-j)
 
 pub loop-j-preserved : goal.loop-j-preserved
 loop-j-preserved c = writing_more c.loop-j.invariant (search rules) refl
