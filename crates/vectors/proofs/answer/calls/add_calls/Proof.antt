@@ -1,0 +1,18 @@
+-- `vectors::answer::calls::add_calls` meets its contract: the calls are made from the dead session on. Assumes nothing.
+use mathlib.Core.Path.{ap}
+use borrow.Author.Rules.{rules}
+use lib.ListN.{replicate}
+use Rattle.session.specs.Tables.{object_size}
+use Rattle.session.specs.declared.state.Session.{Session}
+use Rattle.append.proofs.AppendLaws.{same_text}
+use Rattle.vectors.specs.CallsText.{call_texts, calls_text}
+use Rattle.vectors.proofs.CallsLaws.{host}
+use Rattle.vectors.proofs.answer.calls.add_calls.Statement.{statement}
+use Rattle.vectors.proofs.answer.calls.add_calls.Tie as tie
+
+returns : tie.Need-returns
+unfolding calls_text object_size
+returns c = same_text (ap (λ (s : Session). call_texts (host s (replicate object_size 0)) c.before.before.before.before.before.before.before.before.before.args.s.now) c.before.before.before.before.before.before.dead-session.ensures) c.before.before.before.run-calls.ensures.0
+
+pub add-calls-spec : {M : Type 1} → statement M
+add-calls-spec = tie.close (tie.spec (λ c κs. search rules) (λ c. search rules) (λ c κs. search rules) (λ c. search rules) returns)
