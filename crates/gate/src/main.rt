@@ -1,8 +1,14 @@
 // The gate program (document 01, "List text and the gate program"): runs the lines of standard input, and prints each line's answer and the stamp at the end.
 #![tactic(auto)]
 
-fn main() {
+fn main(rt: HostRuntime) {
     let mut input = [0u8; gate_stream::READ];
     let mut out = [0u8; gate_stream::OUT];
-    gate_stream::run_gate(0, &mut input, &mut out);
+    gate_stream::run_gate(
+        &mut rt.stdin(),
+        &mut rt.stdout(),
+        &mut rt.stderr(),
+        &mut input,
+        &mut out,
+    );
 }

@@ -2,24 +2,26 @@
 // the file `stdout`, is written from the documents.
 #![tactic(auto)]
 
-fn run_script(i: usize, input: &mut [u8; gate_stream::READ], out: &mut [u8; gate_stream::OUT]) {
-    let mut name = io::buffer();
-    let n = os::arg(i, &mut name);
-    io::write_all(1, &name[..n]);
-    io::write_all(1, b"\n");
-    let fd = os::open_read(&name[..n]);
-    if fd < 0 {
-        os::fail(&name[..n]);
-        return;
-    }
-    gate_stream::run_gate(fd, input, out);
-    libc::close(fd);
+use std::fs::File;
+use std::{env, io};
+
+fn run_script(
+    rt: &HostRuntime,
+    name: &str,
+    input: &mut [u8; gate_stream::READ],
+    out: &mut [u8; gate_stream::OUT],
+) -> io::Result<()> {
+    println!(rt; "{name}")?;
+    let mut script = File::open(rt, name)?;
+    gate_stream::run_gate(&mut script, &mut rt.stdout(), &mut rt.stderr(), input, out);
+    Ok(())
 }
 
-fn main() {
+fn main(rt: HostRuntime) -> io::Result<()> {
     let mut input = [0u8; gate_stream::READ];
     let mut out = [0u8; gate_stream::OUT];
-    for i in 1..os::arg_count() {
-        run_script(i, &mut input, &mut out);
+    for name in env::args(&rt)?.skip(1) {
+        run_script(&rt, name.as_str(), &mut input, &mut out)?;
     }
+    Ok(())
 }

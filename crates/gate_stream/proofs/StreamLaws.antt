@@ -11,7 +11,6 @@ use lib.IntN.{ℤ, pos, negsuc}
 use lib.ListN.{length, take, drop, length-append, length-take, length-drop}
 use lib.Seq.{take-add, take-append_seam, length-take-le}
 use Rattle.common.proofs.TestLaws.{clash, and_left, either}
-use Rattle.io.specs.Counts.{clamp_len}
 use Rattle.common.specs.Lists.{over_front}
 use Rattle.session.specs.Operation.{dead}
 use Rattle.session.specs.declared.state.Session.{Session}
@@ -27,7 +26,7 @@ use Rattle.gate_lines.specs.declared.state.State.{State}
 use Rattle.gate_lines.specs.Run.{SinceOpen, since_open, printed_for, end_for}
 use Rattle.gate_lines.proofs.RunLaws.{run_end}
 use Rattle.gate_lines.proofs.InputLaws.{feed_append, text_append, whole_gate, last_promise}
-use Rattle.gate_stream.specs.Stream.{reply_most, goes_on, Fed, ending_text, EndsWith, EndsBy}
+use Rattle.gate_stream.specs.Stream.{clamp_len, reply_most, goes_on, Fed, ending_text, EndsWith, EndsBy}
 
 -- ---- a block, part by part
 

@@ -1,6 +1,6 @@
 -- What was fed to the program, whether it goes on, and what is printed at the end.
 -- Assumes nothing.
-use Rattle.std.specs.Prelude.{◌≡◌, Bool, true, false, not, ◌&&◌, ◌||◌, List, ◌++◌, ℕ, ◌-◌, ◌*◌, ◌^◌, ◌≤◌, ℤ, pos, length, take}
+use Rattle.std.specs.Prelude.{◌≡◌, Bool, true, false, not, ◌&&◌, ◌||◌, List, ◌++◌, ℕ, ◌-◌, ◌*◌, ◌^◌, ◌≤◌, ℤ, pos, negsuc, min, length, take}
 use Rattle.std.specs.Int.Signed.{lt_z}
 use Rattle.gate_lines.specs.Gate.{fresh, end_text}
 use Rattle.gate_lines.specs.Run.{SinceOpen, since_open, printed_for, end_for}
@@ -17,6 +17,11 @@ reply_most = 14
 
 abbrev pub out_size : ℕ
 out_size = read_size * reply_most
+
+-- How many bytes a read gave, at most as many as there was room for, by the number that it gave: none where that is below 0.
+abbrev pub clamp_len : ℤ → ℕ → ℕ
+clamp_len (pos k) most = min k most
+clamp_len (negsuc k) most = 0
 
 -- The program goes on: the read gave bytes, and standard output took what they print. A read gives 0 at the end of the input, and a number below where it fails.
 unfoldable pub goes_on : ℤ → Bool → Bool

@@ -1,4 +1,4 @@
-// The gate program on a file descriptor: its bytes are read in blocks to the end and handed to the crate gate_lines, and what that prints goes to standard output.
+// The gate program on a reader: its bytes are read in blocks to the end and handed to the crate gate_lines, and what that prints goes to a writer.
 //
 // No contract can say what the system reads or writes. What these contracts say: the bytes that are fed are the first of the buffer that was read into, as many as
 // the read gave; what is handed on to be written is the text of those bytes, whole; the program goes on while the number that the read gave is above 0 and the
@@ -8,19 +8,19 @@
 
 ghost use Rattle.std.specs.Prelude.{◌≡◌, ◌+◌, ◌-◌, ◌*◌, ◌≤◌, ◌<◌, length, take, replicate};
 ghost use Rattle.common.specs.Lists.{over_front, over_places};
-ghost use Rattle.io.specs.Counts.{clamp_len};
 ghost use Rattle.session.specs.Tables.{object_size};
 ghost use Rattle.gate_lines.specs.Gate.{text_in};
 ghost use Rattle.gate_lines.specs.GateCode.{TextFits};
 ghost use Rattle.gate_lines.specs.Input.{input_state_of, input_after, text_of_input};
 ghost use Rattle.gate_lines.specs.InputCode.{part_from};
-ghost use Rattle.gate_stream.specs.Stream.{read_size, reply_most, out_size, goes_on, read_fails, stops, Fed, ending_text, EndsFor};
+ghost use Rattle.gate_stream.specs.Stream.{clamp_len, read_size, reply_most, out_size, goes_on, read_fails, stops, Fed, ending_text, EndsFor};
 
-use common::slice;
+use common::{number, slice};
 use gate_lines::input::HELD;
 use gate_lines::state::{CARDS, State, Text};
 use gate_lines::{reply, run};
 use session::figures::OBJECT;
+use std::io::{Read, Write};
 
 // How many bytes are read at once, the most bytes that a byte of the input prints, and the room for what a block prints; `read_size`, `reply_most` and
 // `out_size` in the definitions.
@@ -127,17 +127,39 @@ fn run_block(
 }
 
 // The first n bytes of out, handed on to standard output.
-fn write_out(out: &[u8], n: usize) -> Wrote
+fn write_out<W: Write>(to: &mut W, out: &[u8], n: usize) -> Wrote
     requires { n ≤ length out.now }
     ensures { result.count ≡ n }
 {
-    let taken = io::write_all(1, &out[..n]);
+    let taken = to.write_all(&out[..n]).is_ok();
     Wrote { count: n, taken }
 }
 
+// What a read gave: how many bytes, or a number below 0 where it failed.
+fn read_some<R: Read>(from: &mut R, input: &mut [u8]) -> isize
+    requires { length input.old ≤ read_size }
+    ensures { length input.new ≡ length input.old }
+{
+    match from.read(input) {
+        Ok(n) => n as isize,
+        Err(_) => -1,
+    }
+}
+
+// That number as a count of buf's bytes: 0 where the read failed.
+fn count(got: isize, buf: &[u8]) -> usize
+    ensures { result ≡ clamp_len got (length buf.now) }
+{
+    if got < 0 {
+        return 0;
+    }
+    number::least(got as usize, buf.len())
+}
+
 // One block that is read. What it prints is written then, so that whoever sent a line has its answer before the next is waited for.
-fn one_block(
-    fd: i32,
+fn one_block<R: Read, W: Write>(
+    from: &mut R,
+    to: &mut W,
     start: InputRun,
     cards: &mut [u64; CARDS],
     object: &mut [u8; OBJECT],
@@ -150,8 +172,8 @@ fn one_block(
     ensures prints { out.new ≡ over_front (text_of_input (input_state_of start.state start.held cards.old object.old line.old) (take (clamp_len result.got read_size) input.new)) out.old }
     ensures written { result.wrote.count ≡ length (text_of_input (input_state_of start.state start.held cards.old object.old line.old) (take (clamp_len result.got read_size) input.new)) }
 {
-    let got = libc::read(fd, input);
-    let n = io::count(got, input);
+    let got = read_some(from, input);
+    let n = count(got, input);
     let state = start.state;
     let at = BlockState {
         state,
@@ -160,7 +182,7 @@ fn one_block(
         gathered: 0,
     };
     let done = run_block(at, cards, object, line, out, &input[..n]);
-    let wrote = write_out(out, done.gathered);
+    let wrote = write_out(to, out, done.gathered);
     let state = done.state;
     InputRun {
         state,
@@ -192,8 +214,9 @@ fn stops(got: isize, taken: bool) -> bool
 }
 
 // Blocks to the end of the input. A proved loop has to end, and nothing says that the input does: the turns are counted down from a number that no run uses up.
-fn run_input(
-    fd: i32,
+fn run_input<R: Read, W: Write>(
+    from: &mut R,
+    to: &mut W,
     start: InputRun,
     cards: &mut [u64; CARDS],
     object: &mut [u8; OBJECT],
@@ -208,7 +231,7 @@ fn run_input(
     let mut turns = u64::MAX;
     while (turns > 0) & goes_on(at.got, at.wrote.taken) {
         turns -= 1;
-        at = one_block(fd, at, cards, object, line, input, out);
+        at = one_block(from, to, at, cards, object, line, input, out);
     }
     at
 }
@@ -237,8 +260,9 @@ fn last_text(
 }
 
 // The whole input, and the text of its end, which is handed on; where a read or a write failed there is none.
-fn run_whole(
-    fd: i32,
+fn run_whole<R: Read, W: Write>(
+    from: &mut R,
+    to: &mut W,
     cards: &mut [u64; CARDS],
     object: &mut [u8; OBJECT],
     line: &mut [u8; HELD],
@@ -259,7 +283,7 @@ fn run_whole(
         got: 1,
         wrote,
     };
-    let end = run_input(fd, start, cards, object, line, input, out);
+    let end = run_input(from, to, start, cards, object, line, input, out);
     let got = end.got;
     let taken = end.wrote.taken;
     if stops(got, taken) {
@@ -270,36 +294,49 @@ fn run_whole(
         return Ending { got, taken, wrote };
     }
     let n = last_text(end, cards, object, line, out);
-    let wrote = write_out(out, n);
+    let wrote = write_out(to, out, n);
     Ending { got, taken, wrote }
 }
 
-// A line on standard error.
-fn complain(text: &[u8]) {
-    io::write_all(2, text);
+// A line on standard error. Where that takes no more, nothing can be said of it.
+fn complain<E: Write>(errors: &mut E, text: &[u8]) {
+    let _taken = errors.write_all(text).is_ok();
 }
 
 // The end as it is; where there is no stamp, or standard output did not take it, a line on standard error gives the reason.
-fn with_reason(end: Ending) -> Ending
+fn with_reason<E: Write>(errors: &mut E, end: Ending) -> Ending
     ensures { result ≡ end }
 {
     if read_fails(end.got) {
-        complain(b"gate: the input cannot be read, so there is no stamp\n");
+        complain(
+            errors,
+            b"gate: the input cannot be read, so there is no stamp\n",
+        );
         return end;
     }
     if !(end.taken & end.wrote.taken) {
-        complain(b"gate: standard output takes no more, so there is no stamp\n");
+        complain(
+            errors,
+            b"gate: standard output takes no more, so there is no stamp\n",
+        );
     }
     end
 }
 
-// The program on the file descriptor fd. What it prints at the end stands at the front of out.
-pub fn run_gate(fd: i32, input: &mut [u8; READ], out: &mut [u8; OUT]) -> Ending
+// The program on a reader. What it prints goes to the writer `to`, and the reason of an end without a stamp to `errors`; what it prints at the end stands at
+// the front of out.
+pub fn run_gate<R: Read, W: Write, E: Write>(
+    from: &mut R,
+    to: &mut W,
+    errors: &mut E,
+    input: &mut [u8; READ],
+    out: &mut [u8; OUT],
+) -> Ending
     ensures for_every_list { EndsFor (replicate object_size 0) out.new result }
 {
     let mut cards = [0u64; CARDS];
     let mut object = [0u8; OBJECT];
     let mut line = [0u8; HELD];
-    let end = run_whole(fd, &mut cards, &mut object, &mut line, input, out);
-    with_reason(end)
+    let end = run_whole(from, to, &mut cards, &mut object, &mut line, input, out);
+    with_reason(errors, end)
 }

@@ -2,12 +2,8 @@
 use mir.Syntax.{w64}
 use mir.ValLaws.{to_z-of_z}
 use Rattle.gate_stream.specs.Stream.{goes_on}
-use Rattle.gate_stream.proofs.goes_on.Statement.{statement}
-use Rattle.gate_stream.proofs.goes_on.Tie as tie
+use Rattle.gate_stream.proofs.goes_on.Goals as goal
 
-returns : tie.Need-returns
+pub returns : goal.returns
 unfolding goes_on
 returns c = rw (to_z-of_z w64 c.args.got c.ranges.got)
-
-pub goes-on-spec : {M : Type 1} → statement M
-goes-on-spec = tie.close (tie.spec returns)

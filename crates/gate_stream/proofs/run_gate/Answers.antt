@@ -1,0 +1,8 @@
+-- `gate_stream::run_gate` meets its contract: the buffers that it lends have their sizes. Assumes nothing.
+use borrow.Author.Rules.{rules}
+use Rattle.session.specs.Tables.{object_size}
+use Rattle.gate_stream.proofs.run_gate.Goals as goal
+
+pub returns : goal.returns
+unfolding object_size
+returns g c = rw c.with_reason.ensures c.run_whole-end.ensures
