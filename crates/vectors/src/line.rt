@@ -17,7 +17,7 @@ fn add_spelled(out: &mut [u8], at: usize, name: &[u8], digits: &[u8]) -> usize
     requires { length digits.now ≤ 2 * most_bytes }
     ensures { Added out.old at out.new result (answer_text (call_named name.now) (bytes_in digits.now)) }
 {
-    let mut b = io::large_buffer();
+    let mut b = [0u8; BYTES];
     let n = hex::read(digits, &mut b);
     let call = answer::call_of(name);
     answer::answer(out, at, call, &b[..n])

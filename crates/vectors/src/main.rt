@@ -16,6 +16,7 @@ mod refusal;
 ghost use Rattle.std.specs.Prelude.{◌≡◌, ◌≤◌, length, take};
 
 use common::slice;
+use std::io::{Read, Write};
 
 // The most bytes of a line and its 0A, and of the text of a block: an empty line gives 17 bytes for one, a list of commands with a room of 64 at most 19. Only a list that asks for a
 // field again and again gives more.
@@ -30,67 +31,75 @@ struct Held {
     more: bool,
 }
 
+// A line on standard error. Where that takes no more, nothing can be said of it.
+fn complain(rt: &HostRuntime, text: &[u8]) {
+    let _taken = rt.stderr().write_all(text).is_ok();
+}
+
 // Writes the first n bytes of a text; whether all was written. A text that fills its buffer may be cut, and is not written.
-fn write_text(out: &[u8], n: usize) -> bool {
+fn write_text(rt: &HostRuntime, out: &[u8], n: usize) -> bool {
     if out.len() <= n {
-        io::write_all(2, b"vectors: the text of a block does not fit the buffer\n");
+        complain(
+            rt,
+            b"vectors: the text of a block does not fit the buffer\n",
+        );
         return false;
     }
-    let taken = io::write_all(1, slice::front(out, n));
+    let taken = rt.stdout().write_all(slice::front(out, n)).is_ok();
     if !taken {
-        io::write_all(2, b"vectors: standard output is not written\n");
+        complain(rt, b"vectors: standard output is not written\n");
     }
     taken
 }
 
 // Reads after the bytes that are held; how many bytes stand in the block then. At the end of the input they are as many as before.
-fn read_more(block: &mut [u8], held: usize) -> Held
+fn read_more(rt: &HostRuntime, block: &mut [u8], held: usize) -> Held
     requires { held ≤ length block.old }
     ensures inside { (held ≤ result.count) × (result.count ≤ length block.new) }
     ensures holds { take held block.new ≡ take held block.old }
 {
     if held == block.len() {
-        io::write_all(2, b"vectors: a line does not fit the buffer\n");
+        complain(rt, b"vectors: a line does not fit the buffer\n");
         return Held {
             count: held,
             more: false,
         };
     }
-    let got = libc::read(0, &mut block[held..]);
-    if got < 0 {
-        io::write_all(2, b"vectors: standard input is not read\n");
-        return Held {
-            count: held,
-            more: false,
-        };
-    }
-    let n = io::count(got, slice::after(block, held));
-    Held {
-        count: held + n,
-        more: true,
+    match rt.stdin().read(&mut block[held..]) {
+        Ok(n) => Held {
+            count: held + n,
+            more: true,
+        },
+        Err(_) => {
+            complain(rt, b"vectors: standard input is not read\n");
+            Held {
+                count: held,
+                more: false,
+            }
+        }
     }
 }
 
 // One block: it is read, and the text of its lines is written; at the end of the input that of a last line.
-fn one_block(block: &mut [u8], out: &mut [u8], held: usize) -> Held
+fn one_block(rt: &HostRuntime, block: &mut [u8], out: &mut [u8], held: usize) -> Held
     requires { held ≤ length block.old }
     ensures { result.count ≤ length block.new }
 {
-    let read = read_more(block, held);
+    let read = read_more(rt, block, held);
     let end = read.count;
     if !read.more {
         return read;
     }
     if end == held {
         let n = input::add_last(out, 0, slice::front(block, held));
-        write_text(out, n);
+        write_text(rt, out, n);
         return Held {
             count: held,
             more: false,
         };
     }
     let done = input::use_block(block, out, end);
-    let more = write_text(out, done.text);
+    let more = write_text(rt, out, done.text);
     Held {
         count: done.held,
         more,
@@ -99,22 +108,22 @@ fn one_block(block: &mut [u8], out: &mut [u8], held: usize) -> Held
 
 // The characters of figure 7, then blocks to the end of the input. A proved loop has to end, and nothing says that the input does: the turns are counted down
 // from a number that no run uses up.
-fn run(block: &mut [u8], out: &mut [u8]) -> Held
+fn run(rt: &HostRuntime, block: &mut [u8], out: &mut [u8]) -> Held
     ensures { result.count ≤ length block.new }
 {
     let n = answer::fascn::add_codes(out, 0);
-    let more = write_text(out, n);
+    let more = write_text(rt, out, n);
     let mut at = Held { count: 0, more };
     let mut turns = u64::MAX;
     while (turns > 0) & at.more {
         turns -= 1;
-        at = one_block(block, out, at.count);
+        at = one_block(rt, block, out, at.count);
     }
     at
 }
 
-fn main() {
+fn main(rt: HostRuntime) {
     let mut block = [0u8; BLOCK];
     let mut out = [0u8; TEXT];
-    run(&mut block, &mut out);
+    run(&rt, &mut block, &mut out);
 }
