@@ -1,6 +1,6 @@
 -- `card::date::real` meets its contract: its tests are the definition's, and no month has fewer than 28 days. Assumes nothing.
 use mathlib.Core.Path.{◌≡◌, refl, sym, ap}
-use mathlib.Core.Bool.{Bool, true, false, cond, not, ◌&&◌, ◌||◌, false≢true}
+use mathlib.Core.Bool.{Bool, true, false, cond, ◌&&◌, ◌||◌, false≢true}
 use Prim.Native.Nat.{ℕ, ◌/◌, ◌%◌, ◌≤◌}
 use native.Mathlib.Nat.{le_trans}
 use native.Mathlib.Omega.{arith}
@@ -11,13 +11,13 @@ use Rattle.card.specs.Date.{leap_year, days_in, real_date}
 use Rattle.card.proofs.date.real.Goals as goal
 
 -- the first test fails, or passes and leaves the second
-failed : (a b : Bool) → not a ≡ true → false ≡ a && b
-failed true b e = absurd (false≢true e)
+failed : (a b : Bool) → a ≡ false → false ≡ a && b
+failed true b e = absurd (false≢true (sym e))
 failed false b e = refl
 
-passed : (a b : Bool) {r : Bool} → not a ≡ false → r ≡ b → r ≡ a && b
+passed : (a b : Bool) {r : Bool} → a ≡ true → r ≡ b → r ≡ a && b
 passed true b e f = f
-passed false b e f = absurd (false≢true (sym e))
+passed false b e f = absurd (false≢true e)
 
 least : (y m : ℕ) → 28 ≤ days_in y m
 unfolding days_in

@@ -1,52 +1,60 @@
--- `card::template::walk` meets its contract. The measure is the depth left; the loop's invariant, that from place `at`
--- on, with the 4Fs noted so far, the walk finds what it finds in the whole. Assumes nothing.
-use mathlib.Core.Path.{◌≡◌, refl, sym, ◌∙◌}
-use mathlib.Core.Logic.{⊎_elim}
-use Prim.Native.Nat.{ℕ, ◌+◌, ◌-◌, ◌≤◌, ◌<◌}
+-- `card::template::walk` meets its contract. Assumes nothing.
+use mathlib.Core.Path.{refl, sym, ◌∙◌}
 use native.Mathlib.Omega.{arith}
 use borrow.Author.Rules.{rules}
 use borrow.Author.Tests.{not-false, not-true}
-use lib.ListN.{length, drop}
-use Rattle.card.specs.Tlv.{header_of}
-use Rattle.card.specs.TemplateCode.{walked}
-use Rattle.card.specs.declared.tlv.Header.TheVariants.{Whole}
+use lib.ListN.{drop}
 use Rattle.card.proofs.TlvLaws.{place_inside, header_start, known}
 use Rattle.card.proofs.TemplateLaws.{walk_end, walk_deep, walk_bad, walk_past, walk_broken, plain_passes, nested_passes, nested_fails}
-use Rattle.common.proofs.slice.after.Reads as after-reads
 use Rattle.card.proofs.template.+walk.Goals as goal
+use Rattle.card.proofs.template.+walk.Goals.{then-nested+else-not-inner, else-nested}
 
-abbrev μ_walk : Measures 1 walk-kinds.ps ℕ
-μ_walk κs a = a.1.0
+pub loop-at-init : goal.loop-at-init
+loop-at-init t c = (omega arith, refl)
 
-abbrev walk_at : ℕ → In 1 walk-kinds.ps
-walk_at t = and 1 walk-kinds.ps (is 1 walk-kinds.ps μ_walk t) walk.Pre
+pub returns-then-depth-eq0 : goal.returns-then-depth-eq0
+returns-then-depth-eq0 t c = sym (c.loop-at.invariant.1 ∙ walk_deep c.args.s.now _ _ _ c.loop-at-test.true c.if-depth-eq0.true)
 
-abbrev walk_below : ℕ → In 1 walk-kinds.ps
-walk_below t = and 1 walk-kinds.ps (falls 1 walk-kinds.ps ◌<◌ μ_walk t) walk.Pre
+pub returns-in_default : goal.returns-in_default
+returns-in_default t c =
+    sym (c.loop-at.invariant.1 ∙ walk_bad c.args.s.now _ _ _ c.loop-at-test.true c.if-depth-eq0.false
+    (known c.in_default.is c.next_header.ensures c.after.ensures))
 
--- a place in the walk where the TLV at `at` is whole
-abbrev Met : ℕ → Type 0
-Met t =
-    walk-lts.After-known-told
-    (after-reads.Asked, after-reads.Learnt, next-header-reads.Asked, next-header-reads.Learnt, walk_below t, walk.Post, note-reads.Asked, note-reads.Learnt)
-    (walk_at t)
-    walk.Post
-    invariant-loop
-    decreases-loop
+pub overflow_add-a : goal.overflow_add-a
+overflow_add-a t c = omega (arith, place_inside c.args.s.now c.loop-at.at (known c.in-Whole.is c.next_header.ensures c.after.ensures) c.loop-at.invariant.0)
 
-met : (t : ℕ) (c : Met t) → let x = c.before.tag.given.0 in let at = c.before.before.before.before.before.before.before in
-    Whole x.0 x.1.0 x.1.1.0 x.1.1.1.0 ≡ header_of (drop at.loop.at at.before.before.args.s.now)
-met t c = known c.before.tag.given.1 c.before.before.before.next-header.ensures c.before.before.before.before.after.ensures
+pub overflow_add-e : goal.overflow_add-e
+overflow_add-e t c = omega (arith, place_inside c.args.s.now c.loop-at.at (known c.in-Whole.is c.next_header.ensures c.after.ensures) c.loop-at.invariant.0)
 
--- it ends within s, after more than no bytes
-met_end : (t : ℕ) (c : Met t) → let x = c.before.tag.given.0.1.1 in let at = c.before.before.before.before.before.before.before in
-    at.loop.at + x.0 + x.1.0 ≤ length at.before.before.args.s.now
-met_end t c =
-    let at = c.before.before.before.before.before.before.before in
-    let s = at.before.before.args.s.now in
-    place_inside s at.loop.at (met t c) at.loop.invariant.0
+pub slice_bounds-walk-end : goal.slice_bounds-walk-end
+slice_bounds-walk-end t c = omega (arith, place_inside c.args.s.now c.loop-at.at (known c.in-Whole.is c.next_header.ensures c.after.ensures) c.loop-at.invariant.0)
 
-met_start : (t : ℕ) (c : Met t) → 0 < c.before.tag.given.0.1.1.0
-met_start t c =
-    let at = c.before.before.before.before.before.before.before in
-    header_start (drop at.loop.at at.before.before.args.s.now) (met t c)
+pub walk-inner-requires : goal.walk-inner-requires
+walk-inner-requires t c = (omega arith, tt)
+
+pub returns-then-not-inner : goal.returns-then-not-inner
+returns-then-not-inner t c =
+    sym (c.loop-at.invariant.1 ∙ walk_broken c.args.s.now _ _ _ c.loop-at-test.true c.if-depth-eq0.false
+    (known c.in-Whole.is c.next_header.ensures c.after.ensures) (nested_fails _ _ c.if-nested.true c.walk-inner.ensures (not-true _ c.if-not-inner.true)))
+
+pub loop-at-smaller : goal.loop-at-smaller
+loop-at-smaller t c =
+    omega (
+      arith,
+      header_start (drop c.loop-at.at c.args.s.now) (known c.in-Whole.is c.next_header.ensures c.after.ensures),
+      place_inside c.args.s.now c.loop-at.at (known c.in-Whole.is c.next_header.ensures c.after.ensures) c.loop-at.invariant.0,
+    )
+
+pub loop-at-preserved : goal.loop-at-preserved
+loop-at-preserved t c =
+    let e = (known c.in-Whole.is c.next_header.ensures c.after.ensures) in (
+      place_inside c.args.s.now c.loop-at.at e c.loop-at.invariant.0,
+      c.loop-at.invariant.1 ∙ rw c.note-aids.ensures (walk_past c.args.s.now _ _ _ c.loop-at-test.true c.if-depth-eq0.false e
+          (elim c.if-nested.branch [
+            | then-nested+else-not-inner w ↦ nested_passes _ _ w.if-nested.true w.walk-inner.ensures (not-false _ w.if-not-inner.false)
+            | else-nested w ↦ plain_passes _ _ w.if-nested.false
+          ])),
+    )
+
+pub returns : goal.returns
+returns t c = sym (c.loop-at.invariant.1 ∙ walk_end c.args.s.now _ _ c.loop-at.at (omega arith))

@@ -1,14 +1,16 @@
--- `common::slice::find` meets its contract: no x stands in the blocks that are passed, and the kit's `find` looks
--- through the rest. Assumes nothing.
-use mathlib.Core.Path.{◌≡◌, sym, ap, ◌∙◌}
-use mathlib.Core.List.{List}
-use Prim.Native.Nat.{ℕ, ◌+◌, ◌≤◌, ◌<◌}
+-- `common::slice::find` meets its contract: no x stands in the blocks that are passed, and `position` looks through the
+-- rest. Assumes nothing.
+use Rattle.std.proofs.Common.{◌≡◌, refl, sym, ap, ◌∙◌, Bool, true, false, Option, Some, None, ℕ, suc, ◌+◌, ◌-◌, ◌≤◌, ◌<◌, List, [], ◌∷◌, cond, length, take, drop, eqb, not, length-drop, rules, arith, tests}
 use native.Mathlib.Nat.{add-zero, le_refl}
-use native.Mathlib.Omega.{arith}
-use borrow.Author.Rules.{rules}
-use lib.ListN.{length, drop, drop_of_length-le}
+use lib.Dec.{ltb}
+use lib.ListN.{drop_of_length-le}
 use lib.Seq.{take_all}
-use Rattle.common.specs.Bytes.{slice, index_of}
+use Rattle.std.specs.List.{position_or_len}
+use Rattle.std.proofs.lemmas.List.Sums.{prefix_len-le-length}
+use Rattle.std.proofs.lemmas.List.Recursion.{is_position_or_len}
+use Rattle.std.proofs.lemmas.Iterator.{YieldsList-from_slice}
+use Rattle.std.proofs.lemmas.Iterator.Search.{position_from_yields_List}
+use Rattle.common.specs.Bytes.{index_after, index_of}
 use Rattle.common.proofs.slice.find.Goals as goal
 
 -- past the end there is nothing
@@ -16,14 +18,40 @@ none : (x : ℕ) (s : List ℕ) (from : ℕ) → length s < from → from ≡ fr
 unfolding index_of
 none x s from h = let e : length s ≤ from = omega arith in rw (drop_of_length-le s e, add-zero)
 
--- the kit's slice to the end
-to_end : (s : List ℕ) (from : ℕ) → slice from (length s) s ≡ drop from s
-unfolding slice
-to_end s from = rw (take_all (length s) s (le_refl (length s)))
+-- one place more, where the first byte is another
+after_is : (t : Bool) (n : ℕ) → index_after t n ≡ cond t 0 (1 + n)
+unfolding index_after
+after_is true n = refl
+after_is false n = omega arith
+
+-- the library's word for the place
+place_is : (x : ℕ) (s : List ℕ) → index_of x s ≡ position_or_len (λ b. eqb b x) s
+unfolding index_of
+place_is x s = is_position_or_len (index_of x) (λ b. eqb b x) refl (λ b l. after_is (eqb b x) (index_of x l)) s
+
+-- what is looked through is all that follows
+to_end : (s : List ℕ) (i : ℕ) → take (length s - i) (drop i s) ≡ drop i s
+to_end s i = take_all (length s - i) (drop i s) (omega (arith, length-drop i s))
+
+-- what `position` returns, by its two cases
+found : (n m k : ℕ) (r : Option ℕ) → r ≡ cond (ltb n m) (Some n) None → r ≡ Some k → (k ≡ n) × (n < m)
+found n m k r e h = (grind arith, grind arith)
+
+missing : (n m : ℕ) (r : Option ℕ) → r ≡ cond (ltb n m) (Some n) None → r ≡ None → m ≤ n
+missing n m r e h = grind arith
 
 pub returns-then-s-from : goal.returns-then-s-from
 returns-then-s-from c = record { is = none c.args.x c.args.s.now c.args.from c.if-s-from.true; inside = (λ h. h) }
 
 pub returns-in-Some : goal.returns-in-Some
-returns-in-Some c = let whole = ap (λ (l : List ℕ). c.past_blocks-i.result + index_of c.args.x l) (to_end c.args.s.now c.past_blocks-i.result) in
-    record { is = c.find.ensures.0 ∙ whole ∙ sym c.past_blocks-i.ensures.is; inside = (λ h. c.find.ensures.1) }
+returns-in-Some c =
+    let k = found _ _ c.in-Some.k _ (position_from_yields_List (λ b. eqb b c.args.x) _ _ c.position.result c.position.ensures.ran (YieldsList-from_slice (drop c.past_blocks-i.result c.args.s.now) (c.iter.ensures.rest ∙ to_end c.args.s.now c.past_blocks-i.result)) (λ x b q k. search (rules, tests))) c.in-Some.is in
+    let w : c.in-Some.k ≡ index_of c.args.x (drop c.past_blocks-i.result c.args.s.now) = k.0 ∙ sym (place_is c.args.x (drop c.past_blocks-i.result c.args.s.now)) in
+    let l : c.in-Some.k < length c.args.s.now - c.past_blocks-i.result = omega (arith, k.0, k.1, length-drop c.past_blocks-i.result c.args.s.now) in
+    record { is = ap (λ (n : ℕ). c.past_blocks-i.result + n) w ∙ sym c.past_blocks-i.ensures.is; inside = (λ h. omega arith) }
+
+pub returns-in-None : goal.returns-in-None
+returns-in-None c =
+    let k = missing _ _ _ (position_from_yields_List (λ b. eqb b c.args.x) _ _ c.position.result c.position.ensures.ran (YieldsList-from_slice (drop c.past_blocks-i.result c.args.s.now) (c.iter.ensures.rest ∙ to_end c.args.s.now c.past_blocks-i.result)) (λ x b q k. search (rules, tests))) c.in-None.is in
+    let w : index_of c.args.x (drop c.past_blocks-i.result c.args.s.now) ≡ length c.args.s.now - c.past_blocks-i.result = omega (arith, k, place_is c.args.x (drop c.past_blocks-i.result c.args.s.now), length-drop c.past_blocks-i.result c.args.s.now, prefix_len-le-length (λ b. not (eqb b c.args.x)) (drop c.past_blocks-i.result c.args.s.now)) in
+    record { is = omega (arith, w, c.past_blocks-i.ensures.is, c.past_blocks-i.ensures.inside); inside = (λ h. le_refl _) }

@@ -22,7 +22,9 @@ returns c =
     rw (eq-eqb _ _ c.if-s-lowest.false, eq-eqb _ _ c.if-s-highest.false) (testing_end c.loop-i.invariant.1 (search rules))
 
 pub loop-i-init : goal.loop-i-init
+unfolding between_at
 loop-i-init c = (search rules, testing_none)
 
 pub loop-i-preserved : goal.loop-i-preserved
+unfolding between_at
 loop-i-preserved c = (c.loop-i.invariant.0, testing_more c.loop-i.invariant.1 (search rules) refl)

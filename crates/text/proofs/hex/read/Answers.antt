@@ -14,4 +14,9 @@ pub loop-i-preserved : goal.loop-i-preserved
 loop-i-preserved c = writing_front c.loop-i.invariant (search rules) c.byte_at.ensures
 
 pub returns : goal.returns
-returns c = (c.least-n.ensures.is, (writing_end c.loop-i.invariant (search rules), (search rules, sym (length-take-le _ _ (search rules)))))
+returns c =
+    record {
+      is = c.least-n.ensures.is;
+      stores = writing_end c.loop-i.invariant (search rules);
+      counts = (search rules, sym (length-take-le _ _ (search rules)));
+    }
