@@ -1,16 +1,9 @@
 -- `ccl::cin::leading_digits` meets its contract: a turn adds a digit, up to the first byte that is none. Assumes
 -- nothing.
-use mathlib.Core.Path.{◌≡◌, sym}
-use Prim.Native.Nat.{◌-◌, ◌*◌, ◌^◌, ◌≤◌, ◌<◌}
-use native.Mathlib.Omega.{arith}
-use borrow.Author.Rules.{rules}
-use borrow.Author.Tests.{not-true, not-false}
-use Rattle.common.specs.Lists.{number, passing}
+use mathlib.Core.Path.{◌≡◌}
+use Prim.Native.Nat.{◌-◌, ◌≤◌}
+use Rattle.common.specs.Lists.{passing}
 use Rattle.common.specs.Decimal.{is_digit_at, spelled}
-use Rattle.common.proofs.DecimalLaws.{spelled_more, spelled_room}
-use Rattle.ccl.specs.VisualCode.{leading_digits}
-use Rattle.common.proofs.PassingLaws.{passing_more, passing_stop}
-use Rattle.ccl.proofs.VisualCodeLaws.{leading_end}
 use Rattle.ccl.proofs.cin.leading_digits.Given as goal
 
 abbrev pub invariant-loop-k : goal.invariant-loop-k

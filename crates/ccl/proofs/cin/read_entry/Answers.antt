@@ -2,7 +2,6 @@
 use mathlib.Core.Path.{◌≡◌, sym, ap, ◌∙◌}
 use mathlib.Core.Bool.{◌&&◌}
 use Prim.Native.Nat.{ℕ}
-use borrow.Author.Rules.{rules}
 use borrow.Author.Tests.{eqb-true}
 use lib.Dec.{eqb, leb}
 use lib.ListN.{length}
@@ -20,7 +19,7 @@ pub returns-then-n-typed : goal.returns-then-n-typed
 unfolding entry_of cin_of
 returns-then-n-typed c =
     let e : c.leading_digits-digits.result.count ≡ length c.args.typed.now = eqb-true c.leading_digits-digits.result.count (length c.args.typed.now) (and_right (leb 1 c.leading_digits-digits.result.count && leb c.leading_digits-digits.result.count 10) (eqb c.leading_digits-digits.result.count (length c.args.typed.now)) c.if-n-typed.true) in
-    rw (decided (goal.at.returns-then-n-typed c).After-leading_digits-digits, c.if-n-typed.true) (ap (λ (x : ℕ). (0, x)) (rw e c c.leading_digits-digits.ensures.spells))
+    rw (decided (goal.at.returns-then-n-typed c).After-leading_digits-digits, c.if-n-typed.true) (ap (λ (x : ℕ). (0, x)) (rw e at c.leading_digits-digits.ensures.spells))
 
 pub returns : goal.returns
 unfolding entry_of

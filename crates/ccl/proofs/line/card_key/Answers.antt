@@ -1,7 +1,6 @@
 -- `ccl::line::card_key` meets its contract: the two strings are the texts of the lowest and the highest key. Assumes nothing.
 use mathlib.Core.Path.{◌≡◌, sym, ◌∙◌}
 use native.Mathlib.Omega.{arith}
-use borrow.Author.Rules.{rules}
 use Rattle.common.specs.Lists.{list_of}
 use Rattle.text.proofs.FormLaws.{between_at_lem}
 use Rattle.common.specs.Decimal.{digit_of}

@@ -1,15 +1,8 @@
 -- `ccl::line::digits_of` meets its contract: a turn stores the digit before those that are stored. Assumes nothing.
-use mathlib.Core.Path.{◌≡◌, refl, sym, ◌∙◌}
-use mathlib.Core.List.{List}
-use mathlib.Core.Logic.{⊎_elim}
-use Prim.Native.Nat.{ℕ, suc, ◌+◌, ◌-◌, ◌/◌, ◌%◌, ◌^◌, ◌≤◌, ◌<◌}
-use native.Mathlib.Nat.{pow-suc, div-one, div-div-eq-div-mul, eq-or-lt_of_le}
-use native.Mathlib.Omega.{arith}
-use borrow.Author.Rules.{rules}
-use lib.ListN.{length, get_or, set, length-set}
-use lib.Seq.{get_or-set_same, get_or-set_other}
-use Rattle.common.proofs.ListsLaws.{list_of_is}
-use Rattle.common.specs.Decimal.{digit_of, digits_of}
+use mathlib.Core.Path.{◌≡◌}
+use Prim.Native.Nat.{ℕ, ◌-◌, ◌/◌, ◌^◌, ◌≤◌, ◌<◌}
+use lib.ListN.{length, get_or}
+use Rattle.common.specs.Decimal.{digit_of}
 use Rattle.ccl.proofs.line.digits_of.Given as goal
 
 abbrev pub invariant-loop-k : goal.invariant-loop-k

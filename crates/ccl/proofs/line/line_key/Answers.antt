@@ -1,5 +1,4 @@
 -- `ccl::line::line_key` meets its contract. Assumes nothing.
-use borrow.Author.Rules.{rules}
 use Rattle.ccl.specs.Line.{line_key}
 use Rattle.ccl.proofs.line.line_key.Goals as goal
 

@@ -1,5 +1,4 @@
 -- `ccl::line::line_of` meets its contract: with the digits, both are the same list. Assumes nothing.
-use borrow.Author.Rules.{rules}
 use Rattle.common.specs.Lists.{list_of}
 use Rattle.common.specs.Decimal.{digits_of}
 use Rattle.ccl.specs.Line.{line_of, card_text}

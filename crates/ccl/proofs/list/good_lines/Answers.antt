@@ -1,9 +1,8 @@
 -- `ccl::list::good_lines` meets its contract: a turn counts one more good line. Assumes nothing.
 use mathlib.Core.Path.{◌≡◌, refl, sym, ◌∙◌}
-use Prim.Native.Nat.{◌-◌, ◌/◌, ◌≤◌}
+use Prim.Native.Nat.{◌/◌}
 use native.Mathlib.Omega.{arith}
 use borrow.Author.Rules.{rules}
-use borrow.Author.Tests.{not-true, not-false}
 use lib.ListN.{length}
 use Rattle.common.specs.Lists.{list_of, passing}
 use Rattle.common.specs.Decimal.{digit_of}
@@ -20,7 +19,7 @@ loop-n-init c = (search rules, refl)
 
 -- the two strings are the lines of the lowest and the highest key
 good_is : (c : goal.After-between)
-    → let at = c.before.before.before.before.before in good_line (line_at at.before.before.before.before.args.text.now at.loop.n) ≡ c.between.result
+    → good_line (line_at c.args.text.now c.loop-n.n) ≡ c.between.result
 unfolding good_line line_of card_text list_of digit_of
 good_is c = rw (← part_line c.args.text.now c.loop-n.n) (sym c.between.ensures)
 

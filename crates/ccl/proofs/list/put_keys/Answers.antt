@@ -1,8 +1,7 @@
 -- `ccl::list::put_keys` meets its contract: a turn stores the key of line i. Assumes nothing.
 use mathlib.Core.Path.{ap, ◌∙◌}
-use Prim.Native.Nat.{◌-◌}
 use borrow.Author.Rules.{rules}
-use Rattle.common.proofs.LoopLaws.{WrittenSoFar, writing_none, writing_front, writing_end}
+use Rattle.common.proofs.LoopLaws.{writing_none, writing_front, writing_end}
 use Rattle.ccl.specs.Line.{line_key}
 use Rattle.ccl.specs.ListText.{key_at}
 use Rattle.ccl.proofs.LinesLaws.{part_line}

@@ -1,6 +1,5 @@
 -- `ccl::list::put_lines` meets its contract: a turn stores the line of key i. Assumes nothing.
 use mathlib.Core.Path.{◌≡◌, refl, ap, ◌∙◌}
-use Prim.Native.Nat.{◌-◌, ◌≤◌}
 use native.Mathlib.Omega.{arith}
 use borrow.Author.Rules.{rules}
 use lib.ListN.{length, take}
@@ -31,7 +30,7 @@ loop-i-preserved c = (
 pub returns : goal.returns
 returns c =
     let e : c.loop-i.i ≡ length c.args.keys.now = omega arith in
-    rw (e, take-length c.args.keys.now) c c.loop-i.invariant.2
+    rw (e, take-length c.args.keys.now) at c.loop-i.invariant.2
 
 pub overflow_mul-i : goal.overflow_mul-i
 overflow_mul-i c = omega arith

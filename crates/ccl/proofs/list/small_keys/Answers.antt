@@ -1,11 +1,7 @@
 -- `ccl::list::small_keys` meets its contract: a turn adds its test. Assumes nothing.
-use mathlib.Core.Path.{◌≡◌, refl}
-use Prim.Native.Nat.{◌-◌}
+use mathlib.Core.Path.{refl}
 use borrow.Author.Rules.{rules}
-use lib.Dec.{ltb}
-use lib.ListN.{length, get_or}
-use Rattle.common.proofs.LoopLaws.{TestedSoFar, testing_none, testing_more, testing_end}
-use Rattle.ccl.specs.Line.{key_limit}
+use Rattle.common.proofs.LoopLaws.{testing_none, testing_more, testing_end}
 use Rattle.ccl.specs.ListText.{small_keys}
 use Rattle.ccl.proofs.list.small_keys.Goals as goal
 
@@ -16,4 +12,5 @@ pub loop-i-preserved : goal.loop-i-preserved
 loop-i-preserved c = (c.loop-i.invariant.0, testing_more c.loop-i.invariant.1 (search rules) refl)
 
 pub returns : goal.returns
+unfolding small_keys
 returns c = testing_end c.loop-i.invariant.1 (search rules)

@@ -1,12 +1,10 @@
 -- `ccl::list::small_keys` meets its contract: a turn adds its test. Assumes nothing.
-use mathlib.Core.Path.{◌≡◌, refl}
+use mathlib.Core.Path.{◌≡◌}
 use Prim.Native.Nat.{◌-◌}
-use borrow.Author.Rules.{rules}
 use lib.Dec.{ltb}
 use lib.ListN.{length, get_or}
-use Rattle.common.proofs.LoopLaws.{TestedSoFar, testing_none, testing_more, testing_end}
+use Rattle.common.proofs.LoopLaws.{TestedSoFar}
 use Rattle.ccl.specs.Line.{key_limit}
-use Rattle.ccl.specs.ListText.{small_keys}
 use Rattle.ccl.proofs.list.small_keys.Given as goal
 
 abbrev pub invariant-loop-i : goal.invariant-loop-i

@@ -2,7 +2,6 @@
 use mathlib.Core.Path.{◌≡◌, refl}
 use mathlib.Core.Bool.{cond, not}
 use Prim.Native.Nat.{◌/◌}
-use borrow.Author.Rules.{rules}
 use borrow.Author.Tests.{lt-ltb, le-ltb}
 use lib.Dec.{ltb}
 use lib.ListN.{length}
@@ -12,20 +11,19 @@ use Rattle.ccl.proofs.list.write.Goals.{After-small_keys}
 
 -- the refusal by the test of the keys
 refusal_is : (c : goal.After-small_keys)
-    → let a = c.before.before.before.args in
-    write_refusal a.keys.now (length a.out.now) ≡ cond (not c.small_keys_lem.result) 22 (cond (ltb (length a.out.now / 32) (length a.keys.now)) 21 0)
+    → write_refusal c.args.keys.now (length c.args.out.now) ≡ cond (not c.small_keys.result) 22 (cond (ltb (length c.args.out.now / 32) (length c.args.keys.now)) 21 0)
 unfolding write_refusal
 refusal_is c = rw (← c.small_keys.ensures)
 
 pub returns-then-not-small_keys : goal.returns-then-not-small_keys
 unfolding write_of text_after
-returns-then-not-small_keys c = rw (refusal_is (goal.at.returns-then-not-small_keys c).After-small_keys, c.if-not-small_keys.true) (refl, refl)
+returns-then-not-small_keys c = rw (refusal_is (goal.at.returns-then-not-small_keys c).After-small_keys, c.if-not-small_keys.true) record { result_value = refl; out_after = refl }
 
 pub returns-then-out-keys : goal.returns-then-out-keys
 unfolding write_of text_after
-returns-then-out-keys c = rw (refusal_is (goal.at.returns-then-out-keys c).After-small_keys, c.if-not-small_keys.false, lt-ltb _ _ c.if-out-keys.true) (refl, refl)
+returns-then-out-keys c = rw (refusal_is (goal.at.returns-then-out-keys c).After-small_keys, c.if-not-small_keys.false, lt-ltb _ _ c.if-out-keys.true) record { result_value = refl; out_after = refl }
 
 pub returns : goal.returns
 unfolding write_of text_after
 returns c =
-    rw (refusal_is (goal.at.returns c).After-small_keys, c.if-not-small_keys.false, le-ltb _ _ c.if-out-keys.false) (refl, c.put_lines.ensures)
+    rw (refusal_is (goal.at.returns c).After-small_keys, c.if-not-small_keys.false, le-ltb _ _ c.if-out-keys.false) record { result_value = refl; out_after = c.put_lines.ensures }

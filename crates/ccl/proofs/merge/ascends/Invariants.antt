@@ -1,12 +1,8 @@
 -- `ccl::merge::ascends` meets its contract: a turn adds its test. Assumes nothing.
-use mathlib.Core.Path.{◌≡◌}
-use Prim.Native.Nat.{suc, ◌+◌, ◌-◌, ◌≤◌}
-use native.Mathlib.Omega.{arith}
-use borrow.Author.Rules.{rules}
+use Prim.Native.Nat.{suc, ◌-◌, ◌≤◌}
 use lib.Dec.{ltb}
 use lib.ListN.{length, get_or}
-use Rattle.common.proofs.LoopLaws.{TestedSoFar, testing_none, testing_more, testing_end}
-use Rattle.ccl.specs.Merge.{ascending}
+use Rattle.common.proofs.LoopLaws.{TestedSoFar}
 use Rattle.ccl.proofs.merge.ascends.Given as goal
 
 abbrev pub invariant-loop-i : goal.invariant-loop-i

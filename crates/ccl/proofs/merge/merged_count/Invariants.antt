@@ -1,11 +1,8 @@
 -- `ccl::merge::merged_count` meets its contract: a turn uses the lower of the two next keys, and a key of both lists is
 -- used of both. Assumes nothing.
-use mathlib.Core.Path.{◌≡◌}
-use Prim.Native.Nat.{◌+◌, ◌-◌, ◌≤◌, ◌<◌}
-use native.Mathlib.Omega.{arith}
-use borrow.Author.Rules.{rules}
+use Prim.Native.Nat.{◌+◌, ◌-◌, ◌≤◌}
 use lib.ListN.{length}
-use Rattle.ccl.proofs.MergeCodeLaws.{Merging, left_of_both, merging_none, turn_first, turn_second, merging_end}
+use Rattle.ccl.proofs.MergeCodeLaws.{Merging}
 use Rattle.ccl.proofs.merge.merged_count.Given as goal
 
 abbrev pub invariant-loop-i : goal.invariant-loop-i

@@ -1,37 +1,32 @@
 -- `ccl::merge::put_merged` meets its contract: a turn stores the lower of the two next keys, and what is left follows.
 -- Assumes nothing.
 use mathlib.Core.Path.{◌≡◌}
-use mathlib.Core.Logic.{⊎_elim}
 use Prim.Native.Nat.{◌+◌, ◌-◌, ◌<◌}
 use borrow.Author.Rules.{rules}
-use lib.ListN.{length, get_or}
-use Rattle.common.proofs.LoopLaws.{WrittenSoFar, writing_none, writing_front}
+use lib.ListN.{length}
+use Rattle.common.proofs.LoopLaws.{writing_none, writing_front}
 use Rattle.ccl.specs.Merge.{merged}
-use Rattle.ccl.proofs.MergeCodeLaws.{Merging, left_of_both, some_turn, merging_none, turn_first, turn_second, merging_end, merging_whole}
+use Rattle.ccl.proofs.MergeCodeLaws.{left_of_both, some_turn, merging_none, turn_first, turn_second, merging_end, merging_whole}
 use Rattle.ccl.proofs.merge.put_merged.Goals as goal
-use Rattle.ccl.proofs.merge.put_merged.Goals.{After-loop-i, In-loop-i}
+use Rattle.ccl.proofs.merge.put_merged.Goals.{After-loop-i, In-loop-i, then-x-y, else-x-y}
 
 -- each list has a key left, and so has the merged list
 keys_left : (c : goal.In-loop-i)
-    → let a = c.before.before.before.before.before.args in
-    let at = c.before.loop in
-    (at.i < length a.a.now) × (at.j < length a.b.now) × (at.k < length (merged a.a.now a.b.now))
+    → (c.loop-i.i < length c.args.a.now) × (c.loop-i.j < length c.args.b.now) × (c.loop-i.k < length (merged c.args.a.now c.args.b.now))
 keys_left c =
     let b = left_of_both c.args.a.now c.args.b.now _ _ c.loop-i-test.true in
     (b.0, b.1, some_turn c.loop-i.invariant.0 c.loop-i-test.true)
 
 pub loop-i-preserved : goal.loop-i-preserved
 loop-i-preserved c =
-    ⊎_elim
-    (λ w. let t = turn_first c.loop-i.invariant.0 c.loop-i-test.true w.0.taken in rw (w.1, w.2, w.3) (t.so_far, writing_front c.loop-i.invariant.1 t.within t.next))
-    (λ w. let t = turn_second c.loop-i.invariant.0 c.loop-i-test.true w.0.left w.1.ensures.0 in rw (w.2, w.3, w.4) (t.so_far, writing_front c.loop-i.invariant.1 t.within t.next))
-    c.if-x-y.branch
+    elim c.if-x-y.branch [
+      | then-x-y w ↦ let t = turn_first c.loop-i.invariant.0 c.loop-i-test.true w.if-x-y.true in rw (w.out-is, w.i-is, w.j-is) (t.so_far, writing_front c.loop-i.invariant.1 t.within t.next)
+      | else-x-y w ↦ let t = turn_second c.loop-i.invariant.0 c.loop-i-test.true w.if-x-y.false w.one_where-i.ensures.is in rw (w.out-is, w.i-is, w.j-is) (t.so_far, writing_front c.loop-i.invariant.1 t.within t.next)
+    ]
 
 -- what is left of the two is left of the merged list
 end : (c : goal.After-loop-i)
-    → let a = c.before.before.before.before.before.args in
-    let at = c.before.loop in
-    at.k + (length a.a.now - at.i) + (length a.b.now - at.j) ≡ length (merged a.a.now a.b.now)
+    → c.loop-i.k + (length c.args.a.now - c.loop-i.i) + (length c.args.b.now - c.loop-i.j) ≡ length (merged c.args.a.now c.args.b.now)
 end c = (merging_end c.loop-i.invariant.0 c.loop-i-test.false).0
 
 pub returns : goal.returns

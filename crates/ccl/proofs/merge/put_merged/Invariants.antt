@@ -1,13 +1,10 @@
 -- `ccl::merge::put_merged` meets its contract: a turn stores the lower of the two next keys, and what is left follows.
 -- Assumes nothing.
-use mathlib.Core.Path.{◌≡◌}
-use mathlib.Core.Logic.{⊎_elim}
-use Prim.Native.Nat.{◌+◌, ◌-◌, ◌<◌}
-use borrow.Author.Rules.{rules}
+use Prim.Native.Nat.{◌+◌, ◌-◌}
 use lib.ListN.{length, get_or}
-use Rattle.common.proofs.LoopLaws.{WrittenSoFar, writing_none, writing_front}
+use Rattle.common.proofs.LoopLaws.{WrittenSoFar}
 use Rattle.ccl.specs.Merge.{merged}
-use Rattle.ccl.proofs.MergeCodeLaws.{Merging, left_of_both, some_turn, merging_none, turn_first, turn_second, merging_end, merging_whole}
+use Rattle.ccl.proofs.MergeCodeLaws.{Merging}
 use Rattle.ccl.proofs.merge.put_merged.Given as goal
 
 abbrev pub invariant-loop-i : goal.invariant-loop-i

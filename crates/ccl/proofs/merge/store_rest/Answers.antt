@@ -1,9 +1,7 @@
 -- `ccl::merge::store_rest` meets its contract: a turn stores a key. Assumes nothing.
 use mathlib.Core.Path.{refl}
-use Prim.Native.Nat.{◌+◌, ◌-◌}
 use borrow.Author.Rules.{rules}
-use lib.ListN.{length, get_or}
-use Rattle.common.proofs.LoopLaws.{WrittenSoFar, writing_none, writing_more, writing_end}
+use Rattle.common.proofs.LoopLaws.{writing_none, writing_more, writing_end}
 use Rattle.ccl.proofs.merge.store_rest.Goals as goal
 
 pub loop-i-preserved : goal.loop-i-preserved

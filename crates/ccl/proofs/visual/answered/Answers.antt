@@ -1,6 +1,5 @@
 -- `ccl::visual::answered` meets its contract: a case for each. Assumes nothing.
 use mathlib.Core.Path.{sym, ap}
-use borrow.Author.Rules.{rules}
 use Rattle.ccl.specs.Visual.{lookup_answer}
 use Rattle.ccl.proofs.visual.answered.Goals as goal
 

@@ -1,7 +1,6 @@
 -- `ccl::visual::closes_line` meets its contract: there are as many bytes, and each is the same. Assumes nothing.
 use mathlib.Core.Path.{sym}
 use native.Mathlib.Omega.{arith}
-use borrow.Author.Rules.{rules}
 use Rattle.common.specs.Lists.{all}
 use Rattle.common.proofs.ListsLaws.{same_front, same_short}
 use Rattle.ccl.specs.Visual.{cin_closes}

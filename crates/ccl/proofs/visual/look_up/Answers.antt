@@ -1,6 +1,5 @@
 -- `ccl::visual::look_up` meets its contract: a CIN is looked up, and what is none is refused. Assumes nothing.
 use mathlib.Core.Path.{◌∙◌}
-use borrow.Author.Rules.{rules}
 use Rattle.ccl.specs.Visual.{typed_of}
 use Rattle.ccl.proofs.CinLaws.{entry_typed, entry_refused}
 use Rattle.ccl.proofs.visual.look_up.Goals as goal

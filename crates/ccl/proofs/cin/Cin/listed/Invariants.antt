@@ -1,16 +1,9 @@
 -- `ccl::cin::Cin::listed` meets its contract: a turn passes a line. Assumes nothing.
-use mathlib.Core.Path.{◌≡◌, sym, ap, ap₂, ◌∙◌}
-use mathlib.Core.Bool.{Bool, cond, ◌||◌}
-use mathlib.Core.List.{List}
-use Prim.Native.Nat.{ℕ, ◌+◌, ◌-◌, ◌≤◌}
-use native.Mathlib.Omega.{arith}
-use borrow.Author.Rules.{rules}
-use lib.Dec.{eqb}
-use lib.ListN.{length, drop, length-drop}
-use lib.Seq.{drop-drop}
+use mathlib.Core.Path.{◌≡◌}
+use Prim.Native.Nat.{◌-◌, ◌≤◌}
+use lib.ListN.{length, drop}
 use Rattle.ccl.specs.Visual.{text_lines, lookup_of}
-use Rattle.ccl.specs.VisualCode.{front_size, front_number, pass_over}
-use Rattle.ccl.proofs.VisualCodeLaws.{front_within, pass_on, pass_end, pass_stop, lookup_is}
+use Rattle.ccl.specs.VisualCode.{pass_over}
 use Rattle.ccl.proofs.cin.Cin.listed.Given as goal
 
 abbrev pub invariant-loop-at : goal.invariant-loop-at
