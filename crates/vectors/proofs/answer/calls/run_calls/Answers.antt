@@ -1,0 +1,28 @@
+-- `vectors::answer::calls::run_calls` meets its contract: a turn makes a call. Assumes nothing.
+use mathlib.Core.Path.{◌≡◌, ap, ◌∙◌}
+use Prim.Native.Nat.{◌+◌, ◌-◌, ◌≤◌}
+use native.Mathlib.Omega.{arith}
+use borrow.Author.Rules.{rules}
+use lib.ListN.{length, length-drop}
+use Rattle.append.proofs.AppendLaws.{adding_end}
+use Rattle.vectors.specs.CallsText.{call_texts, host_at}
+use Rattle.vectors.proofs.CallsLaws.{host, CallsSoFar, no_call, one_call, all_calls_lem}
+use Rattle.vectors.proofs.answer.calls.run_calls.Goals as goal
+
+pub overflow_add-from : goal.overflow_add-from
+overflow_add-from c =
+    let size = ap length c.after-left.ensures ∙ length-drop c.loop-i.from c.args.s.now in
+    let fact : c.loop-i.from + c.least-from.result ≤ length c.args.s.now = omega (arith, c.loop-i.invariant.1.1.inside, c.least-from.ensures.inside.0, size) in
+    omega (arith, fact, c.well_formed_lem.1.1.1.1.0)
+
+pub overflow_step-i : goal.overflow_step-i
+overflow_step-i c = omega (arith, c.loop-i-test.true, c.loop-i.invariant.0, c.well_formed_lem.1.1.1.1.0)
+
+pub loop-i-preserved : goal.loop-i-preserved
+loop-i-preserved c =
+    (c.loop-i.invariant.0, (search rules, one_call c.loop-i.invariant.1.1 (search rules) c.after-left.ensures c.run_first-run.ensures.text c.run_first-run.ensures.host c.argument_count.ensures.is c.least-from.ensures.is))
+
+pub returns : goal.returns
+unfolding call_texts
+returns c = let e : c.loop-i.i ≡ length c.args.s.now = all_calls_lem c.loop-i.invariant.1.1 (search rules) in
+    record { text = adding_end c.add-end.ensures c.loop-i.invariant.1.1.texts (search rules); host = c.loop-i.invariant.1.1.host_is ∙ ap (host_at _ _) e }

@@ -1,0 +1,26 @@
+-- `vectors::answer::merge::key_in` meets its contract: a turn adds a byte. Assumes nothing.
+use mathlib.Core.Path.{◌≡◌, ap, ◌∙◌}
+use Prim.Native.Nat.{ℕ, ◌+◌, ◌-◌, ◌*◌, ◌^◌, ◌≤◌, ◌<◌}
+use native.Mathlib.Omega.{arith}
+use borrow.Author.Rules.{rules}
+use lib.Dec.{lit<}
+use lib.ListN.{get_or}
+use Rattle.common.specs.Lists.{number}
+use Rattle.common.proofs.NumberLaws.{number_more, number_room}
+use Rattle.vectors.specs.MergeText.{key_in}
+use Rattle.vectors.proofs.answer.merge.key_in.Goals as goal
+use Rattle.vectors.proofs.answer.merge.key_in.Goals.{At-loop-j}
+
+pub overflow_mul-k : goal.overflow_mul-k
+overflow_mul-k c = omega (arith, room (goal.at.overflow_mul-k c).At-loop-j (omega arith))
+
+pub overflow_add-k : goal.overflow_add-k
+overflow_add-k c = rw c.byte.ensures (omega (arith, room (goal.at.overflow_add-k c).At-loop-j (omega arith)))
+
+pub loop-j-preserved : goal.loop-j-preserved
+loop-j-preserved c =
+    (search rules, ap (λ (x : ℕ). c.loop-j.k * 256 + x) c.byte.ensures ∙ number_more 256 (λ i. get_or c.args.s.now i 0) _ c.loop-j.invariant.1)
+
+pub returns : goal.returns
+unfolding key_in
+returns c = let e : c.loop-j.j ≡ 8 = omega arith in rw e at c.loop-j.invariant.1

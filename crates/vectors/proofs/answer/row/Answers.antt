@@ -1,0 +1,10 @@
+-- `vectors::answer::row` meets its contract: the test is the definition's. Assumes nothing.
+use mathlib.Core.Path.{sym, ◌∙◌}
+use borrow.Author.Rules.{rules}
+use Rattle.vectors.proofs.answer.row.Goals as goal
+
+pub returns-then-same : goal.returns-then-same
+returns-then-same c = rw (sym c.same.ensures ∙ c.if-same.true)
+
+pub returns-else-same : goal.returns-else-same
+returns-else-same c = rw (sym c.same.ensures ∙ c.if-same.false)
