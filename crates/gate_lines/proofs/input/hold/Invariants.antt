@@ -11,4 +11,4 @@ use Rattle.gate_lines.specs.InputCode.{held_after, line_after}
 use Rattle.gate_lines.proofs.input.hold.Given as goal
 
 abbrev pub invariant-loop-j : goal.invariant-loop-j
-invariant-loop-j l = (l.most ≡ l.held + min (l.j-end - l.from) (most_held - l.held)) × (l.j ≤ l.most - l.held) × (l.line ≡ written l.initial.line l.held l.j (λ i. get_or l.block (l.from + i) 0)) × (length l.line ≡ most_held)
+invariant-loop-j l = (l.most ≡ l.held + min (l.end - l.from) (most_held - l.held)) × (l.j ≤ l.most - l.held) × (l.line ≡ written l.initial.line l.held l.j (λ i. get_or l.block (l.from + i) 0)) × (length l.line ≡ most_held)

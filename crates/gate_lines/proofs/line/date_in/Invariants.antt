@@ -12,6 +12,3 @@ use Rattle.gate_lines.proofs.line.date_in.Given as goal
 
 abbrev pub invariant-loop-j : goal.invariant-loop-j
 invariant-loop-j l = (l.j ≤ 8) × (l.n ≡ spelled l.j (drop 8 l.s))
-
-abbrev pub decreases-loop-j : goal.decreases-loop-j
-decreases-loop-j l = 8 - l.j
