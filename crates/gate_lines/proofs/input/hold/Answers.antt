@@ -1,10 +1,9 @@
 -- `gate_lines::input::hold` meets its contract: a turn stores byte j. Assumes nothing.
 use mathlib.Core.Path.{◌≡◌, refl, sym, ◌∙◌}
-use Prim.Native.Nat.{min, ◌+◌, ◌-◌, ◌≤◌}
+use Prim.Native.Nat.{min, ◌+◌, ◌-◌}
 use native.Mathlib.Omega.{arith}
 use borrow.Author.Rules.{rules}
-use lib.ListN.{length, get_or, length-set}
-use Rattle.common.specs.Lists.{written}
+use lib.ListN.{get_or, length-set}
 use Rattle.common.proofs.ListsLaws.{written_none, written_more}
 use Rattle.gate_lines.specs.Input.{most_held}
 use Rattle.gate_lines.specs.InputCode.{held_after, line_after}

@@ -1,13 +1,9 @@
 -- `gate_lines::input::hold` meets its contract: a turn stores byte j. Assumes nothing.
-use mathlib.Core.Path.{◌≡◌, refl, sym, ◌∙◌}
+use mathlib.Core.Path.{◌≡◌}
 use Prim.Native.Nat.{min, ◌+◌, ◌-◌, ◌≤◌}
-use native.Mathlib.Omega.{arith}
-use borrow.Author.Rules.{rules}
-use lib.ListN.{length, get_or, length-set}
+use lib.ListN.{length, get_or}
 use Rattle.common.specs.Lists.{written}
-use Rattle.common.proofs.ListsLaws.{written_none, written_more}
 use Rattle.gate_lines.specs.Input.{most_held}
-use Rattle.gate_lines.specs.InputCode.{held_after, line_after}
 use Rattle.gate_lines.proofs.input.hold.Given as goal
 
 abbrev pub invariant-loop-j : goal.invariant-loop-j

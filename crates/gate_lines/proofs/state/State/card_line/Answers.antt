@@ -1,6 +1,5 @@
 -- `gate_lines::state::State::card_line` meets its contract: there is room while the count is below the buffer's size. Assumes nothing.
 use mathlib.Core.Path.{refl}
-use borrow.Author.Rules.{rules}
 use borrow.Author.Tests.{lt-ltb, le-ltb}
 use native.Mathlib.Omega.{arith}
 use Rattle.gate_lines.specs.Gate.{gate_after, reply_to}
