@@ -4,7 +4,6 @@ use mathlib.Core.Bool.{true, false}
 use mathlib.Core.List.{List}
 use Prim.Native.Nat.{ℕ, ◌≤◌}
 use native.Mathlib.Omega.{arith}
-use borrow.Author.Rules.{rules}
 use lib.ListN.{length}
 use Rattle.gate_lines.specs.Line.{longest, open_lowest, open_highest, answer_opens, verdict_lowest, verdict_highest, headed, call_in}
 use Rattle.gate_lines.proofs.LineLaws.{headed_room}

@@ -1,5 +1,4 @@
 -- `gate_lines::reply::end_text` meets its contract: the stamp's text, or that of the number by which the stamp call is refused. Assumes nothing.
-use borrow.Author.Rules.{rules}
 use borrow.Author.Tests.{eq-eqb, ne_eqb}
 use mathlib.Core.Path.{◌≡◌, ap, ◌∙◌}
 use mathlib.Core.Bool.{cond}

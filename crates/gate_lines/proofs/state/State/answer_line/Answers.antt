@@ -1,6 +1,5 @@
 -- `gate_lines::state::State::answer_line` meets its contract: the command call, then the answer call with what the buffers hold. Assumes nothing.
 use mathlib.Core.Path.{◌≡◌, refl, sym, ap}
-use borrow.Author.Rules.{rules}
 use lib.ListN.{take}
 use lib.Seq.{length-take-le}
 use Rattle.text.specs.Hex.{bytes_in}

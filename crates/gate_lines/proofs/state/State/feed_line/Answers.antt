@@ -2,7 +2,6 @@
 use mathlib.Core.Path.{refl, ap, ◌∙◌}
 use mathlib.Core.List.{[]}
 use native.Mathlib.Omega.{arith}
-use borrow.Author.Rules.{rules}
 use Rattle.gate_lines.specs.Gate.{gate_of, text_of}
 use Rattle.gate_lines.specs.Input.{input_state_of}
 use Rattle.gate_lines.proofs.FeedLaws.{none_fed, run_fed, line_fed, none_places, run_places, line_places}

@@ -1,7 +1,6 @@
 -- `gate_lines::state::State::last` meets its contract: a line that lacks its 0A is carried out where it has a byte. Assumes nothing.
 use mathlib.Core.Path.{◌≡◌, ap, ◌∙◌}
 use native.Mathlib.Omega.{arith}
-use borrow.Author.Rules.{rules}
 use borrow.Author.Tests.{eq-eqb, ne_eqb}
 use mathlib.Core.List.{[]}
 use lib.ListN.{length, take, length-take}

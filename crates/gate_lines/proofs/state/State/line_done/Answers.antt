@@ -1,7 +1,6 @@
 -- `gate_lines::state::State::line_done` meets its contract: a line is no longer than its buffer. Assumes nothing.
 use mathlib.Core.Path.{◌≡◌, sym}
 use native.Mathlib.Omega.{arith}
-use borrow.Author.Rules.{rules}
 use lib.ListN.{take}
 use lib.Seq.{take_all, length-take-le}
 use Rattle.gate_lines.proofs.state.State.line_done.Goals as goal

@@ -1,6 +1,5 @@
 -- `gate_lines::state::State::open_line` meets its contract: the number that the opening gives decides. Assumes nothing.
 use mathlib.Core.Path.{◌≡◌, refl, ap, ◌∙◌}
-use borrow.Author.Rules.{rules}
 use borrow.Author.Tests.{eq-eqb, ne_eqb}
 use Rattle.text.specs.Hex.{bytes_in}
 use Rattle.session.specs.Operation.{given, open_of}

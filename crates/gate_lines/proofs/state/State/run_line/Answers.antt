@@ -3,7 +3,6 @@ use mathlib.Core.Path.{refl, sym, ap}
 use mathlib.Core.List.{List}
 use Prim.Native.Nat.{ℕ}
 use native.Mathlib.Omega.{arith}
-use borrow.Author.Rules.{rules}
 use Rattle.text.specs.Hex.{bytes_in}
 use Rattle.session.specs.Tables.{object_size}
 use Rattle.gate_lines.specs.Line.{GateLine}

@@ -1,6 +1,5 @@
 -- `gate_lines::state::State::verdict_line` meets its contract: the call is lent the bytes spelled. Assumes nothing.
 use mathlib.Core.Path.{◌≡◌}
-use borrow.Author.Rules.{rules}
 use Rattle.text.specs.Hex.{bytes_in}
 use Rattle.session.specs.Operation.{given, verdict_of}
 use Rattle.gate_lines.proofs.LentLaws.{bytes_taken, stepped}
