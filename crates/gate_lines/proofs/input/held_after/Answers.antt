@@ -1,6 +1,5 @@
--- `gate_lines::input::held_after_lem` meets its contract. Assumes nothing.
+-- `gate_lines::input::held_after` meets its contract. Assumes nothing.
 use native.Mathlib.Omega.{arith}
-use borrow.Author.Rules.{rules}
 use Rattle.gate_lines.specs.InputCode.{held_after}
 use Rattle.gate_lines.proofs.input.held_after.Goals as goal
 

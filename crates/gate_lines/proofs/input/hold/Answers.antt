@@ -1,10 +1,9 @@
 -- `gate_lines::input::hold` meets its contract: a turn stores byte j. Assumes nothing.
 use mathlib.Core.Path.{◌≡◌, refl, sym, ◌∙◌}
-use Prim.Native.Nat.{min, ◌+◌, ◌-◌, ◌≤◌}
+use Prim.Native.Nat.{min, ◌+◌, ◌-◌}
 use native.Mathlib.Omega.{arith}
 use borrow.Author.Rules.{rules}
-use lib.ListN.{length, get_or, length-set}
-use Rattle.common.specs.Lists.{written}
+use lib.ListN.{get_or, length-set}
 use Rattle.common.proofs.ListsLaws.{written_none, written_more}
 use Rattle.gate_lines.specs.Input.{most_held}
 use Rattle.gate_lines.specs.InputCode.{held_after, line_after}
@@ -12,7 +11,7 @@ use Rattle.gate_lines.proofs.input.hold.Goals as goal
 use Rattle.gate_lines.proofs.input.hold.Goals.{After-held_after-most}
 
 most_is : (c : goal.After-held_after-most)
-    → let a = c.before.before.before.args in c.held_after_lem.result ≡ a.held + min (a.end - a.from) (most_held - a.held)
+    → c.held_after-most.result ≡ c.args.held + min (c.args.end - c.args.from) (most_held - c.args.held)
 unfolding held_after
 most_is c = c.held_after-most.ensures.is
 
@@ -47,7 +46,7 @@ loop-j-preserved c = (
 pub returns : goal.returns
 unfolding line_after
 returns c = let e : c.loop-j.j ≡ min (c.args.end - c.args.from) (most_held - c.args.held) = omega (arith, c.loop-j.invariant.0) in
-    record { is = c.held_after-most.ensures.is; stores = rw e c c.loop-j.invariant.2 }
+    record { is = c.held_after-most.ensures.is; stores = rw e at c.loop-j.invariant.2 }
 
 pub shape_of-line : goal.shape_of-line
 shape_of-line c = c.loop-j.invariant.3 ∙ sym c.requires.2

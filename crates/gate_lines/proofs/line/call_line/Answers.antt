@@ -4,7 +4,6 @@ use mathlib.Core.Bool.{true, false}
 use mathlib.Core.List.{List}
 use Prim.Native.Nat.{ℕ, ◌≤◌}
 use native.Mathlib.Omega.{arith}
-use borrow.Author.Rules.{rules}
 use lib.ListN.{length}
 use Rattle.gate_lines.specs.Line.{longest, open_lowest, open_highest, answer_opens, verdict_lowest, verdict_highest, headed, call_in}
 use Rattle.gate_lines.proofs.LineLaws.{headed_room}
@@ -46,6 +45,18 @@ open_room c = headed_room open_lowest open_highest (c.args.s.now) (open_is c)
 
 verdict_room : (c : goal.Then-headed-3) → 16 ≤ length (c.args.s.now)
 verdict_room c = headed_room verdict_lowest verdict_highest (c.args.s.now) (verdict_is c)
+
+pub digit_in-requires : goal.digit_in-requires
+digit_in-requires c = omega (arith, open_room (goal.at.digit_in-requires c).Then-headed)
+
+pub date_in-requires : goal.date_in-requires
+date_in-requires c = omega (arith, open_room (goal.at.date_in-requires c).Then-headed)
+
+pub digit_in-requires-then-headed-3 : goal.digit_in-requires-then-headed-3
+digit_in-requires-then-headed-3 c = omega (arith, verdict_room (goal.at.digit_in-requires-then-headed-3 c).Then-headed-3)
+
+pub digit_in-requires-then-headed-3-2 : goal.digit_in-requires-then-headed-3-2
+digit_in-requires-then-headed-3-2 c = omega (arith, verdict_room (goal.at.digit_in-requires-then-headed-3-2 c).Then-headed-3)
 
 pub returns-then-headed : goal.returns-then-headed
 unfolding call_in

@@ -1,6 +1,6 @@
 -- `gate_lines::line::date_in` meets its contract: a turn adds a decimal digit. Assumes nothing.
 use mathlib.Core.Path.{◌≡◌, sym, ap, ◌∙◌}
-use Prim.Native.Nat.{ℕ, ◌+◌, ◌-◌, ◌*◌, ◌%◌, ◌^◌, ◌≤◌, ◌<◌}
+use Prim.Native.Nat.{ℕ, ◌+◌, ◌*◌, ◌%◌, ◌^◌, ◌<◌}
 use native.Mathlib.Omega.{arith}
 use borrow.Author.Rules.{rules}
 use lib.ListN.{drop}
@@ -10,6 +10,14 @@ use Rattle.common.specs.Decimal.{spelled}
 use Rattle.common.proofs.DecimalLaws.{spelled_more, spelled_room}
 use Rattle.gate_lines.proofs.line.date_in.Goals as goal
 use Rattle.gate_lines.proofs.line.date_in.Goals.{At-loop-j}
+
+-- while digits are left to read, n is small
+small : (c : goal.At-loop-j) → c.loop-j.j < 8 → c.loop-j.n < 2 * 10 ^ 7
+small c h = spelled_room (drop 8 c.args.s.now) c.loop-j.j 7 (omega arith) c.loop-j.invariant.1
+
+pub loop-j-init : goal.loop-j-init
+unfolding spelled number
+loop-j-init c = search rules
 
 pub loop-j-preserved : goal.loop-j-preserved
 loop-j-preserved c =

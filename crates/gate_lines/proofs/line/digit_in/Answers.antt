@@ -1,6 +1,5 @@
 -- `gate_lines::line::digit_in` meets its contract. Assumes nothing.
 use native.Mathlib.Nat.{zero-add, zero-mul, add-zero}
-use borrow.Author.Rules.{rules}
 use lib.Seq.{get_or-drop}
 use Rattle.common.specs.Lists.{number}
 use Rattle.common.specs.Decimal.{spelled}

@@ -1,5 +1,4 @@
 -- `gate_lines::reply::end_text` meets its contract: the stamp's text, or that of the number by which the stamp call is refused. Assumes nothing.
-use borrow.Author.Rules.{rules}
 use borrow.Author.Tests.{eq-eqb, ne_eqb}
 use mathlib.Core.Path.{◌≡◌, ap, ◌∙◌}
 use mathlib.Core.Bool.{cond}
@@ -24,18 +23,18 @@ unfolding end_text
 end_by s e f = rw (e, f)
 
 end_is : (c : goal.After-number-number)
-    → cond (eqb c.number.result 0) (stamp_text c.before.before.stamp2.new.1.0) (refused_text c.number.result)
-    ≡ end_text c.before.before.before.before.args.session
+    → cond (eqb c.number-number.result 0) (stamp_text c.stamp-answered.new.out) (refused_text c.number-number.result)
+    ≡ end_text c.args.session
 unfolding stamp_size
-end_is c = end_by c.args.session (c.number-number.ensures ∙ ap (λ (x : ℕ × Session). x.0) c.stamp-answered.ensures.result_value) c.stamp-answered.ensures.out_after.0
+end_is c = end_by c.args.session (c.number-number.ensures ∙ ap (λ (x : ℕ × Session). x.0) c.stamp-answered.ensures.result_value) c.stamp-answered.ensures.out_after
 
 pub returns-then-number-eq0 : goal.returns-then-number-eq0
 returns-then-number-eq0 c =
     let e = c.stamp_text.ensures.is ∙ ap text_of (rw (eq-eqb _ _ c.if-number-eq0.true) at (end_is (goal.at.returns-then-number-eq0 c).After-number-number)) in
-    (e, (c.stamp_text.ensures.fits, end_promise _ _ (text_in_lem _ e)))
+    record { is = e; fits = c.stamp_text.ensures.fits; for_every_list = end_promise _ _ (text_in_lem _ e) }
 
 pub returns : goal.returns
 unfolding reply_text
 returns c =
     let e = c.refused_text.ensures ∙ ap text_of (rw (ne_eqb _ _ c.if-number-eq0.false) at (end_is (goal.at.returns c).After-number-number)) in
-    (e, (text_fits _ 0 c.refused_text.ensures (reply_fits (Refused c.number-number.result)), end_promise _ _ (text_in_lem _ e)))
+    record { is = e; fits = text_fits _ 0 c.refused_text.ensures (reply_fits (Refused c.number-number.result)); for_every_list = end_promise _ _ (text_in_lem _ e) }

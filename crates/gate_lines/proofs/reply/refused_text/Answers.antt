@@ -1,5 +1,4 @@
 -- `gate_lines::reply::refused_text` meets its contract: three parts, of which the second is the number's digits. Assumes nothing.
-use borrow.Author.Rules.{rules}
 use native.Mathlib.Omega.{arith}
 use mathlib.Core.Path.{◌≡◌, ap, ◌∙◌}
 use mathlib.Core.List.{List, [], ◌++◌}

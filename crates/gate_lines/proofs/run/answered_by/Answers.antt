@@ -1,6 +1,5 @@
 -- `gate_lines::run::answered_by` meets its contract. Assumes nothing.
 use mathlib.Core.Path.{refl, ap, ◌∙◌}
-use borrow.Author.Rules.{rules}
 use Rattle.gate_lines.specs.Gate.{reply_by}
 use Rattle.gate_lines.proofs.run.answered_by.Goals as goal
 

@@ -1,6 +1,5 @@
 -- `gate_lines::run::start` meets its contract. Assumes nothing.
 use mathlib.Core.Path.{refl}
-use borrow.Author.Rules.{rules}
 use Rattle.gate_lines.proofs.run.start.Goals as goal
 
 pub returns : goal.returns

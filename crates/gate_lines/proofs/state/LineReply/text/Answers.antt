@@ -1,5 +1,4 @@
 -- `gate_lines::state::LineReply::text` meets its contract, case by case. Assumes nothing.
-use borrow.Author.Rules.{rules}
 use native.Mathlib.Omega.{arith}
 use mathlib.Core.List.{[]}
 use Rattle.gate_lines.specs.Gate.{reply_text}

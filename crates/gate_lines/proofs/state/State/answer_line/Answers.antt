@@ -1,6 +1,5 @@
 -- `gate_lines::state::State::answer_line` meets its contract: the command call, then the answer call with what the buffers hold. Assumes nothing.
 use mathlib.Core.Path.{◌≡◌, refl, sym, ap}
-use borrow.Author.Rules.{rules}
 use lib.ListN.{take}
 use lib.Seq.{length-take-le}
 use Rattle.text.specs.Hex.{bytes_in}
@@ -17,9 +16,13 @@ pub returns : goal.returns
 unfolding gate_after reply_to
 returns c =
     let ready : c.command-sent.result.session ≡ (command_of c.args.self.session command_room).2 = ap (λ x. x.2) c.command-sent.ensures.result_value in
-    let bytes = bytes_taken c.args.spelled.now c.read-n.new.1.0 c.read-n.result c.requires c.read-n.ensures.is c.read-n.ensures.stores.0 in
+    let bytes = bytes_taken c.args.spelled.now c.read-n.new.out c.read-n.result c.requires c.read-n.ensures.is c.read-n.ensures.stores in
     let keys = lent c.args.self.cards c.least-count.result c.args.cards.now c.least-count.ensures.is in
-    let got : given c.answer-answered.result ≡ answer_of c.command-sent.result.session c.args.object.now (take c.read-n.result c.read-n.new.1.0) (take c.least-count.result c.args.cards.now) = c.answer-answered.ensures.result_value in
+    let got : given c.answer-answered.result ≡ answer_of c.command-sent.result.session c.args.object.now (take c.read-n.result c.read-n.new.out) (take c.least-count.result c.args.cards.now) = c.answer-answered.ensures.result_value in
     let e : given c.answer-answered.result ≡ answer_of (command_of c.args.self.session command_room).2 c.args.object.now (bytes_in c.args.spelled.now) (take c.args.self.cards c.args.cards.now) = rw (ready, bytes, keys) at got in
     let p = stepped c.answered_by.result c.answer-answered.result c.args.self.cards _ e c.answered_by.ensures in
-    (rw (p.1, c.answer-answered.ensures.object_after.0, ready, bytes) refl, (p.0, ap (λ x. x.cards) p.1))
+    record {
+      object_after = rw (p.1, c.answer-answered.ensures.object_after, ready, bytes) refl;
+      reply_value = p.0;
+      cards_value = ap (λ x. x.cards) p.1;
+    }

@@ -3,7 +3,6 @@ use mathlib.Core.Path.{refl, sym, ap}
 use mathlib.Core.List.{List}
 use Prim.Native.Nat.{ℕ}
 use native.Mathlib.Omega.{arith}
-use borrow.Author.Rules.{rules}
 use Rattle.text.specs.Hex.{bytes_in}
 use Rattle.session.specs.Tables.{object_size}
 use Rattle.gate_lines.specs.Line.{GateLine}
@@ -31,29 +30,34 @@ verdict_line-requires c = rw c.hex_from-in-Verdict.ensures (hex_length 13 _ (fit
 
 pub returns-in-Card : goal.returns-in-Card
 returns-in-Card c =
-    steps_read c.args.self c.card_line.result.state c.args.cards.now c.card_line.new.1.0 c.args.object.now c.args.object.now c.args.s.now c.card_line.result.reply _ _ _ c.read-kind.ensures.is c.in-Card.is refl
-    tt (card_steps c.args.self c.card_line.result.state c.args.cards.now c.card_line.new.1.0 c.args.object.now _ _ c.card_line.ensures.cards_after c.card_line.ensures.reply_value.0 c.card_line.ensures.reply_value.1)
+    let p = steps_read c.args.self c.card_line.result.state c.args.cards.now c.card_line.new.cards c.args.object.now c.args.object.now c.args.s.now c.card_line.result.reply _ _ _ c.read-kind.ensures.is c.in-Card.is refl
+    tt (card_steps c.args.self c.card_line.result.state c.args.cards.now c.card_line.new.cards c.args.object.now _ _ c.card_line.ensures.cards_after c.card_line.ensures.reply_value c.card_line.ensures.cards_after_2) in
+    record { state = p.0; reply = p.1.0; places = p.1.1.0; for_every_list = p.1.1.1.0; never_seven = p.1.1.1.1 }
 
 pub returns-in-Open : goal.returns-in-Open
 returns-in-Open c =
-    steps_read c.args.self c.open_line.result.state c.args.cards.now c.args.cards.now c.args.object.now c.args.object.now c.args.s.now c.open_line.result.reply _ _ _ c.read-kind.ensures.is c.in-Open.is
+    let p = steps_read c.args.self c.open_line.result.state c.args.cards.now c.args.cards.now c.args.object.now c.args.object.now c.args.s.now c.open_line.result.reply _ _ _ c.read-kind.ensures.is c.in-Open.is
     (ap (λ (h : List ℕ). GateLine.opening c.in-Open.mode c.in-Open.date (bytes_in h)) (sym c.hex_from.ensures))
-    tt (open_steps c.args.self c.open_line.result.state c.args.cards.now c.args.object.now _ _ _ _ c.open_line.ensures.reply_value c.open_line.ensures.state_value)
+    tt (open_steps c.args.self c.open_line.result.state c.args.cards.now c.args.object.now _ _ _ _ c.open_line.ensures.reply_value c.open_line.ensures.state_value) in
+    record { state = p.0; reply = p.1.0; places = p.1.1.0; for_every_list = p.1.1.1.0; never_seven = p.1.1.1.1 }
 
 pub returns-in-Answer : goal.returns-in-Answer
 unfolding object_size
 returns-in-Answer c =
-    steps_read c.args.self c.answer_line.result.state c.args.cards.now c.args.cards.now c.args.object.now _ c.args.s.now c.answer_line.result.reply _ _ _ c.read-kind.ensures.is c.in-Answer.is
+    let p = steps_read c.args.self c.answer_line.result.state c.args.cards.now c.args.cards.now c.args.object.now _ c.args.s.now c.answer_line.result.reply _ _ _ c.read-kind.ensures.is c.in-Answer.is
     (ap (λ (h : List ℕ). GateLine.answer (bytes_in h)) (sym c.hex_from-in-Answer.ensures))
-    (omega arith) (answer_steps c.args.self c.answer_line.result.state c.args.cards.now c.args.object.now _ _ _ c.answer_line.ensures.object_after c.answer_line.ensures.reply_value.0 c.answer_line.ensures.reply_value.1)
+    (omega arith) (answer_steps c.args.self c.answer_line.result.state c.args.cards.now c.args.object.now _ _ _ c.answer_line.ensures.object_after c.answer_line.ensures.reply_value c.answer_line.ensures.cards_value) in
+    record { state = p.0; reply = p.1.0; places = p.1.1.0; for_every_list = p.1.1.1.0; never_seven = p.1.1.1.1 }
 
 pub returns-in-Verdict : goal.returns-in-Verdict
 returns-in-Verdict c =
-    steps_read c.args.self c.verdict_line.result.state c.args.cards.now c.args.cards.now c.args.object.now c.args.object.now c.args.s.now c.verdict_line.result.reply _ _ _ c.read-kind.ensures.is c.in-Verdict.is
+    let p = steps_read c.args.self c.verdict_line.result.state c.args.cards.now c.args.cards.now c.args.object.now c.args.object.now c.args.s.now c.verdict_line.result.reply _ _ _ c.read-kind.ensures.is c.in-Verdict.is
     (ap (λ (h : List ℕ). GateLine.verdict c.in-Verdict.of c.in-Verdict.yes (bytes_in h)) (sym c.hex_from-in-Verdict.ensures))
-    tt (verdict_steps c.args.self c.verdict_line.result.state c.args.cards.now c.args.object.now _ _ _ _ c.verdict_line.ensures.reply_value c.verdict_line.ensures.state_value)
+    tt (verdict_steps c.args.self c.verdict_line.result.state c.args.cards.now c.args.object.now _ _ _ _ c.verdict_line.ensures.reply_value c.verdict_line.ensures.state_value) in
+    record { state = p.0; reply = p.1.0; places = p.1.1.0; for_every_list = p.1.1.1.0; never_seven = p.1.1.1.1 }
 
 pub returns-in-Bad : goal.returns-in-Bad
 returns-in-Bad c =
-    steps_read c.args.self c.args.self c.args.cards.now c.args.cards.now c.args.object.now c.args.object.now c.args.s.now Bad _ _ _ c.read-kind.ensures.is c.in-Bad.is refl
-    tt (bad_steps c.args.self c.args.cards.now c.args.object.now)
+    let p = steps_read c.args.self c.args.self c.args.cards.now c.args.cards.now c.args.object.now c.args.object.now c.args.s.now Bad _ _ _ c.read-kind.ensures.is c.in-Bad.is refl
+    tt (bad_steps c.args.self c.args.cards.now c.args.object.now) in
+    record { state = p.0; reply = p.1.0; places = p.1.1.0; for_every_list = p.1.1.1.0; never_seven = p.1.1.1.1 }

@@ -1,5 +1,4 @@
 -- `gate_lines::state::Text::with` meets its contract: the bytes are stored right after those that count. Assumes nothing.
-use borrow.Author.Rules.{rules}
 use native.Mathlib.Omega.{arith}
 use mathlib.Core.Path.{ap, ◌∙◌}
 use mathlib.Core.List.{List}
