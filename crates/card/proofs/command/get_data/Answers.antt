@@ -1,7 +1,6 @@
 -- `card::command::get_data` meets its contract: each store lengthens the front. Assumes nothing.
 use mathlib.Core.Path.{refl, ◌∙◌}
 use native.Mathlib.Omega.{arith}
-use borrow.Author.Rules.{rules}
 use Rattle.card.specs.Command.{with_last, get_orata_bytes, get_orata_of}
 use Rattle.common.proofs.StoreLaws.{store_first, store_next}
 use Rattle.card.proofs.CommandLaws.{tag_length, get_orata_length, length_last, get_orata_last, command_fits, command_short}

@@ -1,7 +1,6 @@
 -- `card::command::get_response` meets its contract: each store lengthens the front. Assumes nothing.
 use mathlib.Core.Path.{refl, ◌∙◌}
 use native.Mathlib.Omega.{arith}
-use borrow.Author.Rules.{rules}
 use Rattle.card.specs.Command.{get_response_bytes, get_response_of}
 use Rattle.common.proofs.StoreLaws.{store_first, store_next}
 use Rattle.card.proofs.CommandLaws.{command_fits, command_short}

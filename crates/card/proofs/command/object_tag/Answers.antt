@@ -1,5 +1,4 @@
 -- `card::command::object_tag` meets its contract: the tags are those of the definition. Assumes nothing.
-use borrow.Author.Rules.{rules}
 use Rattle.card.specs.Object.{object_tag}
 use Rattle.card.proofs.command.object_tag.Goals as goal
 

@@ -2,7 +2,6 @@
 use mathlib.Core.Path.{refl, sym, ap, ◌∙◌}
 use mathlib.Core.Bool.{not}
 use native.Mathlib.Omega.{arith}
-use borrow.Author.Rules.{rules}
 use Rattle.card.specs.Command.{with_last, select_bytes, select_of, command_written}
 use Rattle.common.proofs.StoreLaws.{store_first, store_next}
 use Rattle.card.proofs.CommandLaws.{select_length, length_last, select_last, aid_most_lem, command_fits, command_short}

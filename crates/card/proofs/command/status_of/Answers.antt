@@ -1,15 +1,6 @@
 -- `card::command::status_of` meets its contract: each test of the definition is one of the code. Assumes nothing.
-use mathlib.Core.Path.{◌≡◌, sym, ◌∙◌}
-use mathlib.Core.Bool.{true, false}
-use mathlib.Core.List.{List, [], ◌∷◌}
-use Prim.Native.Nat.{ℕ}
-use native.Mathlib.Omega.{arith}
-use borrow.Author.Rules.{rules}
+use mathlib.Core.Path.{sym, ◌∙◌}
 use borrow.Author.Tests.{eq-eqb, ne_eqb}
-use lib.Dec.{eqb}
-use lib.ListN.{length, take}
-use lib.Seq.{length-take-le}
-use Rattle.common.specs.Lists.{same_bytes}
 use Rattle.card.specs.Command.{status_of}
 use Rattle.card.proofs.command.status_of.Goals as goal
 

@@ -1,5 +1,4 @@
 -- `card::date::days_in` meets its contract: each return by the tests before it. Assumes nothing.
-use borrow.Author.Rules.{rules}
 use borrow.Author.Tests.{eq-eqb, ne_eqb}
 use Rattle.card.specs.Date.{days_in}
 use Rattle.card.proofs.date.days_in.Goals as goal

@@ -1,17 +1,8 @@
 -- `card::date::read` meets its contract: a turn adds a digit and its test. Assumes nothing.
-use mathlib.Core.Path.{◌≡◌, refl, sym, ◌∙◌}
-use mathlib.Core.Bool.{cond, ◌&&◌, and_assoc}
-use Prim.Native.Nat.{◌-◌, ◌*◌, ◌^◌, ◌≤◌, ◌<◌}
-use native.Mathlib.Omega.{arith}
-use borrow.Author.Rules.{rules}
-use lib.Dec.{leb}
-use lib.ListN.{get_or}
-use Rattle.common.specs.Lists.{all, number}
+use mathlib.Core.Path.{◌≡◌}
+use Prim.Native.Nat.{◌-◌, ◌≤◌}
+use Rattle.common.specs.Lists.{all}
 use Rattle.common.specs.Decimal.{is_digit_at, spelled}
-use Rattle.card.specs.Date.{date_of}
-use Rattle.common.proofs.ListsLaws.{all_more}
-use Rattle.common.proofs.DecimalLaws.{spelled_more, spelled_room}
-use Rattle.card.proofs.DateLaws.{date_is, not_eight}
 use Rattle.card.proofs.date.read.Given as goal
 
 abbrev pub invariant-loop-i : goal.invariant-loop-i

@@ -1,7 +1,7 @@
 -- `card::fascn::answer_for` meets its contract: each return is where the tests before it are passed. Assumes nothing.
 use mathlib.Core.Path.{◌≡◌}
 use mathlib.Core.Bool.{true, false}
-use borrow.Author.Tests.{eq-eqb, ne_eqb, not-true, not-false}
+use borrow.Author.Tests.{eq-eqb, ne_eqb}
 use Rattle.card.proofs.fascn.answer_for.Goals as goal
 
 pub returns-then-not-odd : goal.returns-then-not-odd

@@ -1,15 +1,8 @@
 -- `card::fascn::key_from` meets its contract: a turn adds a decimal digit. Assumes nothing.
-use mathlib.Core.Path.{◌≡◌, ap, ◌∙◌}
-use Prim.Native.Nat.{ℕ, ◌+◌, ◌-◌, ◌*◌, ◌^◌, ◌≤◌, ◌<◌}
-use native.Mathlib.Numerals.{add-one}
-use native.Mathlib.Omega.{arith}
-use borrow.Author.Rules.{rules}
-use lib.Dec.{lit<}
+use mathlib.Core.Path.{◌≡◌}
+use Prim.Native.Nat.{◌+◌, ◌-◌, ◌*◌, ◌^◌, ◌≤◌}
 use lib.ListN.{get_or}
 use Rattle.common.specs.Lists.{number}
-use Rattle.card.specs.Fascn.{key_of}
-use Rattle.common.proofs.NumberLaws.{number_more}
-use native.Mathlib.Nat.{pow-succ', pow-le-pow_right}
 use Rattle.card.proofs.fascn.key_from.Given as goal
 
 -- bytes above 9 are no digits, but fit: n is at most 29 * 10 ^ k - 29

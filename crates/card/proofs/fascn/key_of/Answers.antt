@@ -1,6 +1,5 @@
 -- `card::fascn::key_of` meets its contract: the first digits are copied. Assumes nothing.
 use mathlib.Core.Path.{◌∙◌}
-use borrow.Author.Rules.{rules}
 use Rattle.common.specs.Lists.{list_of, number, written}
 use Rattle.card.specs.Fascn.{key_of}
 use Rattle.card.proofs.fascn.key_of.Goals as goal

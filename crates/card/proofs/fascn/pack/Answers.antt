@@ -1,5 +1,4 @@
 -- `card::fascn::pack` meets its contract: each return is where its test was decided. Assumes nothing.
-use borrow.Author.Rules.{rules}
 use Rattle.card.specs.Fascn.{pack_refusal, pack_of}
 use Rattle.card.proofs.CharacterLaws.{bytes_chars}
 use Rattle.card.proofs.fascn.pack.Goals as goal

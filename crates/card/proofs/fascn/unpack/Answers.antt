@@ -1,6 +1,5 @@
 -- `card::fascn::unpack` meets its contract: the tests are those of the definition. Assumes nothing.
 use mathlib.Core.Path.{◌≡◌, ◌∙◌}
-use borrow.Author.Rules.{rules}
 use borrow.Author.Tests.{ne_eqb}
 use Rattle.common.specs.Lists.{all}
 use Rattle.card.specs.Fascn.{odd_at, values_in, unpack_refusal, unpack_of}

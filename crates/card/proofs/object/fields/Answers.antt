@@ -1,13 +1,12 @@
 -- `card::object::fields` meets its contract: a turn reads the field of one row. Assumes nothing.
 use mathlib.Core.Path.{◌≡◌, ap}
 use mathlib.Core.Bool.{cond, ◌&&◌}
-use Prim.Native.Nat.{◌-◌, ◌≤◌}
 use native.Mathlib.Omega.{arith}
 use lib.Dec.{eqb}
-use lib.ListN.{length, get_or, take, replicate}
+use lib.ListN.{length, get_or, replicate}
 use Rattle.card.specs.Object.{most_fields, empty, rows_of, row_field, fields_from, fields_answer}
 use Rattle.card.specs.ObjectCode.{no_row}
-use Rattle.card.proofs.FieldLaws.{laid_out, row_at, Read, read_none, read_more, read_all}
+use Rattle.card.proofs.FieldLaws.{laid_out, row_at, read_none, read_more, read_all}
 use Rattle.card.proofs.object.fields.Goals as goal
 use Rattle.card.proofs.object.fields.Goals.{After-loop-i}
 

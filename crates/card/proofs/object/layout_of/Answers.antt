@@ -1,5 +1,4 @@
 -- `card::object::layout_of` meets its contract: the layout is that of the definition. Assumes nothing.
-use borrow.Author.Rules.{rules}
 use Rattle.card.specs.Object.{rows_of}
 use Rattle.card.specs.ObjectCode.{layout_of}
 use Rattle.card.proofs.object.layout_of.Goals as goal

@@ -2,7 +2,6 @@
 use mathlib.Core.Path.{◌≡◌, ◌∙◌}
 use Prim.Native.Nat.{◌+◌, ◌≤◌}
 use native.Mathlib.Omega.{arith}
-use borrow.Author.Rules.{rules}
 use lib.ListN.{length, drop}
 use Rattle.card.specs.Tlv.{header_of}
 use Rattle.card.specs.declared.tlv.Header.TheVariants.{Whole}
@@ -12,7 +11,7 @@ use Rattle.card.proofs.object.next_field.Goals as goal
 use Rattle.card.proofs.object.next_field.Goals.{In-Whole}
 
 pub returns-then-byte-row : goal.returns-then-byte-row
-returns-then-byte-row c = record { is = field_unlike c.args.v.now c.args.base c.args.row c.args.at c.struct_known-1.given.0.fits (λ e. c.if-byte-row.true (c.byte.ensures ∙ e)); inside = omega arith }
+returns-then-byte-row c = record { is = field_unlike c.args.v.now c.args.base c.args.row c.args.at (omega arith) (λ e. c.if-byte-row.true (c.byte.ensures ∙ e)); inside = omega arith }
 
 -- the header of the arm
 whole_is : (c : goal.In-Whole) → Whole c.in-Whole.tag c.in-Whole.nested c.in-Whole.start c.in-Whole.len ≡ header_of (drop c.args.at c.args.v.now)

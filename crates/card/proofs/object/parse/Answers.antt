@@ -2,7 +2,6 @@
 -- nothing.
 use mathlib.Core.Path.{◌≡◌, sym, ap, ◌∙◌}
 use native.Mathlib.Omega.{arith}
-use borrow.Author.Rules.{rules}
 use lib.ListN.{length}
 use Rattle.card.specs.Tlv.{only_of}
 use Rattle.card.specs.Object.{data_object_tag, object_from, object_of}
@@ -18,7 +17,7 @@ whole_is c = sym c.in-Whole.is ∙ c.only.ensures
 pub fields-requires : goal.fields-requires
 fields-requires c =
     let e = only_is data_object_tag c.args.s.now (whole_is (goal.at.fields-requires c).In-Whole) in
-    omega (arith, e.2, ap length c.part.ensures, value_length c.args.s.now e.0, header_small c.args.s.now (λ i. (c.shared_slice_known-1.given i).fits) e.0)
+    omega (arith, e.2, ap length c.part.ensures, value_length c.args.s.now e.0, header_small c.args.s.now (λ i. (c.type_inv.s i).fits) e.0)
 
 pub returns-in-Whole : goal.returns-in-Whole
 unfolding object_of object_from

@@ -1,7 +1,6 @@
 -- `card::template::walk` meets its contract. Assumes nothing.
 use mathlib.Core.Path.{refl, sym, ◌∙◌}
 use native.Mathlib.Omega.{arith}
-use borrow.Author.Rules.{rules}
 use borrow.Author.Tests.{not-false, not-true}
 use lib.ListN.{drop}
 use Rattle.card.proofs.TlvLaws.{place_inside, header_start, known}

@@ -1,7 +1,6 @@
 -- `card::tlv::ending` meets its contract: the test picks the case. Assumes nothing.
 use Prim.Native.Nat.{◌+◌}
 use native.Mathlib.Omega.{arith}
-use borrow.Author.Rules.{rules}
 use borrow.Author.Tests.{lt-ltb, le-ltb}
 use lib.ListN.{length}
 use Rattle.card.specs.Tlv.{ending_of}

@@ -3,7 +3,6 @@ use mathlib.Core.Path.{◌≡◌, sym, ◌∙◌}
 use mathlib.Core.List.{List}
 use Prim.Native.Nat.{ℕ, ◌%◌, ◌<◌}
 use native.Mathlib.Omega.{arith}
-use borrow.Author.Rules.{rules}
 use borrow.Author.Tests.{ne_eqb, lt-ltb}
 use lib.ListN.{get_or}
 use Rattle.card.specs.Tlv.{tag_size, tag_number, length_size, length_of, nested_bit, ending_of, after_tag, header_of}

@@ -1,6 +1,5 @@
 -- `common::slice::byte` meets its contract: past the end `get_or` gives its default. Assumes nothing.
 use mathlib.Core.Path.{sym}
-use borrow.Author.Rules.{rules}
 use lib.ListN.{get_or-eq_default}
 use Rattle.common.proofs.slice.byte.Goals as goal
 

@@ -1,6 +1,6 @@
 -- `common::slice::find` meets its contract: no x stands in the blocks that are passed, and `position` looks through the
 -- rest. Assumes nothing.
-use Rattle.std.proofs.Common.{◌≡◌, refl, sym, ap, ◌∙◌, Bool, true, false, Option, Some, None, ℕ, suc, ◌+◌, ◌-◌, ◌≤◌, ◌<◌, List, [], ◌∷◌, cond, length, take, drop, eqb, not, length-drop, rules, arith, tests}
+use Rattle.std.proofs.Common.{◌≡◌, refl, sym, ap, ◌∙◌, Bool, true, false, Option, Some, None, ℕ, ◌+◌, ◌-◌, ◌≤◌, ◌<◌, List, cond, length, take, drop, eqb, not, length-drop, rules, arith, tests}
 use native.Mathlib.Nat.{add-zero, le_refl}
 use lib.Dec.{ltb}
 use lib.ListN.{drop_of_length-le}

@@ -1,7 +1,6 @@
 -- `common::slice::front` meets its contract: a place past the end counts as the end. Assumes nothing.
 use mathlib.Core.Path.{sym}
 use native.Mathlib.Omega.{arith}
-use borrow.Author.Rules.{rules}
 use lib.Seq.{length-take-le}
 use Rattle.common.proofs.ListsLaws.{take_most}
 use Rattle.common.proofs.slice.front.Goals as goal

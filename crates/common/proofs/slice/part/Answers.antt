@@ -1,5 +1,4 @@
 -- `common::slice::part` meets its contract: the first bytes of what follows. Assumes nothing.
-use borrow.Author.Rules.{rules}
 use Rattle.common.proofs.slice.part.Goals as goal
 
 pub returns : goal.returns

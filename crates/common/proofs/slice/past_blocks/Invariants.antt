@@ -1,19 +1,8 @@
 -- `common::slice::past_blocks` meets its contract: a turn passes 32 bytes, none of which is x. Assumes nothing.
-use mathlib.Core.Path.{◌≡◌, refl, sym, ◌∙◌}
-use mathlib.Core.Bool.{true, false, not}
-use mathlib.Core.List.{List}
-use Prim.Native.Nat.{ℕ, zero, suc, ◌+◌, ◌-◌, ◌≤◌, ◌<◌}
-use native.Mathlib.Nat.{add-zero}
-use native.Mathlib.Numerals.{add-one, one-add}
-use native.Mathlib.Omega.{arith}
-use borrow.Author.Rules.{rules}
-use borrow.Author.Tests.{not-true, not-false}
-use lib.Dec.{eqb}
-use lib.ListN.{length, get_or, drop}
-use lib.Seq.{drop-cons}
-use Rattle.common.specs.Lists.{all}
-use Rattle.common.proofs.ListsLaws.{all_at}
-use Rattle.common.specs.Bytes.{index_after, index_of}
+use mathlib.Core.Path.{◌≡◌}
+use Prim.Native.Nat.{◌+◌, ◌-◌, ◌≤◌}
+use lib.ListN.{length, drop}
+use Rattle.common.specs.Bytes.{index_of}
 use Rattle.common.proofs.slice.past_blocks.Given as goal
 
 abbrev pub invariant-loop-i : goal.invariant-loop-i

@@ -1,12 +1,9 @@
 -- `common::slice::same` meets its contract: a turn adds its test. Assumes nothing.
-use mathlib.Core.Path.{◌≡◌, refl}
-use Prim.Native.Nat.{◌-◌}
+use mathlib.Core.Path.{refl}
 use borrow.Author.Rules.{rules}
 use borrow.Author.Tests.{eq-eqb, ne_eqb}
-use lib.Dec.{eqb}
-use lib.ListN.{length, get_or}
 use Rattle.common.specs.Lists.{same_bytes}
-use Rattle.common.proofs.LoopLaws.{TestedSoFar, testing_none, testing_more, testing_end}
+use Rattle.common.proofs.LoopLaws.{testing_none, testing_more, testing_end}
 use Rattle.common.proofs.slice.same.Goals as goal
 
 pub returns-then-a-b : goal.returns-then-a-b

@@ -1,12 +1,8 @@
 -- `common::slice::same` meets its contract: a turn adds its test. Assumes nothing.
-use mathlib.Core.Path.{◌≡◌, refl}
-use Prim.Native.Nat.{◌-◌}
-use borrow.Author.Rules.{rules}
-use borrow.Author.Tests.{eq-eqb, ne_eqb}
+use mathlib.Core.Path.{◌≡◌}
 use lib.Dec.{eqb}
 use lib.ListN.{length, get_or}
-use Rattle.common.specs.Lists.{same_bytes}
-use Rattle.common.proofs.LoopLaws.{TestedSoFar, testing_none, testing_more, testing_end}
+use Rattle.common.proofs.LoopLaws.{TestedSoFar}
 use Rattle.common.proofs.slice.same.Given as goal
 
 abbrev pub invariant-loop-i : goal.invariant-loop-i

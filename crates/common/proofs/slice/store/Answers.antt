@@ -1,6 +1,6 @@
 -- `common::slice::store` meets its contract: two tests say whether the bytes fit, and they are copied over the part of
 -- out that begins at the place. Assumes nothing.
-use Rattle.std.proofs.Common.{◌≡◌, sym, ◌∙◌, ℕ, ◌+◌, ◌-◌, List, ◌++◌, append_assoc, length, take, drop, rules, arith}
+use Rattle.std.proofs.Common.{◌≡◌, sym, ◌∙◌, ℕ, ◌+◌, ◌-◌, List, append_assoc, length, take, drop, arith}
 use lib.Seq.{drop-drop}
 use borrow.Rule.Slice.PartMut.{put_mid}
 use Rattle.common.specs.Lists.{over_places}

@@ -1,10 +1,8 @@
 -- `text::form::between` meets its contract: a turn adds its test. Assumes nothing.
-use mathlib.Core.Path.{◌≡◌, refl}
-use Prim.Native.Nat.{◌-◌}
+use mathlib.Core.Path.{refl}
 use borrow.Author.Rules.{rules}
 use borrow.Author.Tests.{eq-eqb, ne_eqb}
-use lib.ListN.{length}
-use Rattle.common.proofs.LoopLaws.{TestedSoFar, testing_none, testing_more, testing_end}
+use Rattle.common.proofs.LoopLaws.{testing_none, testing_more, testing_end}
 use Rattle.text.specs.Form.{between, between_at}
 use Rattle.text.proofs.form.between.Goals as goal
 

@@ -1,11 +1,8 @@
 -- `text::form::between` meets its contract: a turn adds its test. Assumes nothing.
-use mathlib.Core.Path.{◌≡◌, refl}
-use Prim.Native.Nat.{◌-◌}
-use borrow.Author.Rules.{rules}
-use borrow.Author.Tests.{eq-eqb, ne_eqb}
+use mathlib.Core.Path.{◌≡◌}
 use lib.ListN.{length}
-use Rattle.common.proofs.LoopLaws.{TestedSoFar, testing_none, testing_more, testing_end}
-use Rattle.text.specs.Form.{between, between_at}
+use Rattle.common.proofs.LoopLaws.{TestedSoFar}
+use Rattle.text.specs.Form.{between_at}
 use Rattle.text.proofs.form.between.Given as goal
 
 abbrev pub invariant-loop-i : goal.invariant-loop-i

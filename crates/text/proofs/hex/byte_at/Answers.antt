@@ -1,5 +1,4 @@
 -- `text::hex::byte_at` meets its contract. Assumes nothing.
-use borrow.Author.Rules.{rules}
 use Rattle.text.specs.Hex.{byte_at}
 use Rattle.text.proofs.hex.byte_at.Goals as goal
 

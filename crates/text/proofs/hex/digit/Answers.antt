@@ -1,5 +1,4 @@
 -- `text::hex::digit` meets its contract: the test picks the case. Assumes nothing.
-use borrow.Author.Rules.{rules}
 use borrow.Author.Tests.{lt-ltb, le-ltb}
 use Rattle.text.specs.Hex.{hex_digit}
 use Rattle.text.proofs.hex.digit.Goals as goal

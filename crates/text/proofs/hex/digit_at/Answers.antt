@@ -1,5 +1,4 @@
 -- `text::hex::digit_at` meets its contract: the test picks the half. Assumes nothing.
-use borrow.Author.Rules.{rules}
 use borrow.Author.Tests.{eq-eqb, ne_eqb}
 use Rattle.text.specs.Hex.{hex_digit_at}
 use Rattle.text.proofs.hex.digit_at.Goals as goal

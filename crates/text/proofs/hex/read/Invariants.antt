@@ -1,9 +1,6 @@
 -- `text::hex::read` meets its contract: a turn stores byte i. Assumes nothing.
-use mathlib.Core.Path.{sym}
 use Prim.Native.Nat.{◌-◌}
-use borrow.Author.Rules.{rules}
-use lib.Seq.{length-take-le}
-use Rattle.common.proofs.LoopLaws.{WrittenSoFar, writing_none, writing_front, writing_end}
+use Rattle.common.proofs.LoopLaws.{WrittenSoFar}
 use Rattle.text.specs.Hex.{byte_at}
 use Rattle.text.proofs.hex.read.Given as goal
 

@@ -1,8 +1,6 @@
 -- `text::hex::write` meets its contract: a turn stores digit i. Assumes nothing.
-use Prim.Native.Nat.{◌-◌}
 use borrow.Author.Rules.{rules}
-use Rattle.common.proofs.LoopLaws.{WrittenSoFar, writing_none, writing_front, writing_end}
-use Rattle.text.specs.Hex.{hex_digit_at}
+use Rattle.common.proofs.LoopLaws.{writing_none, writing_front, writing_end}
 use Rattle.text.proofs.hex.write.Goals as goal
 
 pub loop-i-init : goal.loop-i-init

@@ -1,7 +1,6 @@
 -- `text::hex::write` meets its contract: a turn stores digit i. Assumes nothing.
 use Prim.Native.Nat.{◌-◌}
-use borrow.Author.Rules.{rules}
-use Rattle.common.proofs.LoopLaws.{WrittenSoFar, writing_none, writing_front, writing_end}
+use Rattle.common.proofs.LoopLaws.{WrittenSoFar}
 use Rattle.text.specs.Hex.{hex_digit_at}
 use Rattle.text.proofs.hex.write.Given as goal
 

@@ -1,12 +1,10 @@
 -- `card::fascn::Key::listed` meets its contract: a turn adds its test. Assumes nothing.
-use mathlib.Core.Path.{◌≡◌, refl, ap, ◌∙◌}
+use mathlib.Core.Path.{◌≡◌}
 use mathlib.Core.Bool.{not}
 use Prim.Native.Nat.{◌-◌}
-use borrow.Author.Rules.{rules}
 use lib.Dec.{eqb}
 use lib.ListN.{length, get_or}
-use Rattle.common.proofs.LoopLaws.{TestedSoFar, testing_none, testing_more, testing_end}
-use Rattle.common.proofs.MemberLaws.{in_all}
+use Rattle.common.proofs.LoopLaws.{TestedSoFar}
 use Rattle.card.proofs.fascn.Key.listed.Given as goal
 
 abbrev pub invariant-loop-i : goal.invariant-loop-i

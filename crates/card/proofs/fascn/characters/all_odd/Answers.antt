@@ -1,9 +1,6 @@
 -- `card::fascn::characters::all_odd` meets its contract: a turn adds its test. Assumes nothing.
-use Prim.Native.Nat.{◌-◌}
 use borrow.Author.Rules.{rules}
-use lib.ListN.{get_or}
-use Rattle.common.proofs.LoopLaws.{TestedSoFar, testing_none, testing_more, testing_end}
-use Rattle.card.specs.FascnCode.{odd_char}
+use Rattle.common.proofs.LoopLaws.{testing_none, testing_more, testing_end}
 use Rattle.card.proofs.fascn.characters.all_odd.Goals as goal
 
 pub loop-i-init : goal.loop-i-init

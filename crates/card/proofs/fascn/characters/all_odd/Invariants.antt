@@ -1,8 +1,7 @@
 -- `card::fascn::characters::all_odd` meets its contract: a turn adds its test. Assumes nothing.
 use Prim.Native.Nat.{◌-◌}
-use borrow.Author.Rules.{rules}
 use lib.ListN.{get_or}
-use Rattle.common.proofs.LoopLaws.{TestedSoFar, testing_none, testing_more, testing_end}
+use Rattle.common.proofs.LoopLaws.{TestedSoFar}
 use Rattle.card.specs.FascnCode.{odd_char}
 use Rattle.card.proofs.fascn.characters.all_odd.Given as goal
 

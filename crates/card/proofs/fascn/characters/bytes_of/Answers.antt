@@ -1,10 +1,9 @@
 -- `card::fascn::characters::bytes_of` meets its contract: a turn stores the five bytes of eight characters. Assumes nothing.
 use mathlib.Core.Path.{refl}
-use Prim.Native.Nat.{◌-◌, ◌*◌}
 use borrow.Author.Rules.{rules}
 use lib.ListN.{replicate}
-use Rattle.common.proofs.LoopLaws.{WrittenSoFar, writing_none, writing_to, writing_whole}
-use Rattle.card.specs.FascnCode.{regrouped, bytes_of_chars}
+use Rattle.common.proofs.LoopLaws.{writing_none, writing_to, writing_whole}
+use Rattle.card.specs.FascnCode.{bytes_of_chars}
 use Rattle.card.proofs.CharacterLaws.{regrouped_back}
 use Rattle.card.proofs.fascn.characters.bytes_of.Goals as goal
 

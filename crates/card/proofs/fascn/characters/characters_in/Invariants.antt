@@ -1,11 +1,7 @@
 -- `card::fascn::characters::characters_in` meets its contract: a turn stores the eight characters of five bytes. Assumes nothing.
-use mathlib.Core.Path.{refl}
 use Prim.Native.Nat.{◌-◌, ◌*◌}
-use borrow.Author.Rules.{rules}
-use lib.ListN.{replicate}
-use Rattle.common.proofs.LoopLaws.{WrittenSoFar, writing_none, writing_to, writing_whole}
-use Rattle.card.specs.FascnCode.{regrouped, chars_in}
-use Rattle.card.proofs.CharacterLaws.{regrouped_back}
+use Rattle.common.proofs.LoopLaws.{WrittenSoFar}
+use Rattle.card.specs.FascnCode.{regrouped}
 use Rattle.card.proofs.fascn.characters.characters_in.Given as goal
 
 abbrev pub invariant-loop-g : goal.invariant-loop-g

@@ -1,12 +1,8 @@
 -- `card::fascn::characters::number_in` meets its contract: a turn adds a digit to the base. Assumes nothing.
-use mathlib.Core.Path.{◌≡◌, ap, ◌∙◌}
-use Prim.Native.Nat.{ℕ, ◌+◌, ◌-◌, ◌*◌, ◌%◌, ◌^◌, ◌≤◌, ◌<◌}
-use native.Mathlib.Nat.{mod-lt}
-use native.Mathlib.Omega.{arith}
-use borrow.Author.Rules.{rules}
+use mathlib.Core.Path.{◌≡◌}
+use Prim.Native.Nat.{◌+◌, ◌-◌, ◌%◌, ◌≤◌}
 use lib.ListN.{get_or}
 use Rattle.common.specs.Lists.{number}
-use Rattle.common.proofs.NumberLaws.{number_more, number_room}
 use Rattle.card.proofs.fascn.characters.number_in.Given as goal
 
 abbrev pub invariant-loop-j : goal.invariant-loop-j

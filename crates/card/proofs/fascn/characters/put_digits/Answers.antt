@@ -1,11 +1,11 @@
 -- `card::fascn::characters::put_digits` meets its contract: a turn stores digit j. Assumes nothing.
 use mathlib.Core.Path.{refl}
-use Prim.Native.Nat.{◌-◌, ◌*◌, ◌/◌, ◌%◌, ◌^◌, ◌<◌}
+use Prim.Native.Nat.{◌-◌, ◌*◌, ◌/◌, ◌^◌, ◌<◌}
 use native.Mathlib.Nat.{mod-lt, lt_of_le_of_lt, mul-le-mul_left}
 use native.Mathlib.Omega.{arith}
 use borrow.Author.Rules.{rules}
 use lib.Pow.{pow_pos}
-use Rattle.common.proofs.LoopLaws.{WrittenSoFar, writing_none, writing_more, writing_end}
+use Rattle.common.proofs.LoopLaws.{writing_none, writing_more, writing_end}
 use Rattle.card.proofs.fascn.characters.put_digits.Goals as goal
 use Rattle.card.proofs.fascn.characters.put_digits.Goals.{In-loop-j}
 

@@ -1,10 +1,7 @@
 -- `card::fascn::characters::values_in` meets its contract: a turn stores value i. Assumes nothing.
 use mathlib.Core.Path.{refl}
-use Prim.Native.Nat.{◌-◌}
 use borrow.Author.Rules.{rules}
-use lib.ListN.{get_or}
-use Rattle.common.proofs.LoopLaws.{WrittenSoFar, writing_none, writing_front, writing_whole}
-use Rattle.card.specs.FascnCode.{value_char}
+use Rattle.common.proofs.LoopLaws.{writing_none, writing_front, writing_whole}
 use Rattle.card.proofs.fascn.characters.values_in.Goals as goal
 
 pub loop-i-init : goal.loop-i-init

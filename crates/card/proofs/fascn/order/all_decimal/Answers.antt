@@ -1,8 +1,7 @@
 -- `card::fascn::order::all_decimal` meets its contract: a turn adds its test. Assumes nothing.
 use mathlib.Core.Path.{refl}
-use Prim.Native.Nat.{◌-◌}
 use borrow.Author.Rules.{rules}
-use Rattle.common.proofs.LoopLaws.{TestedSoFar, testing_none, testing_more, testing_end}
+use Rattle.common.proofs.LoopLaws.{testing_none, testing_more, testing_end}
 use Rattle.card.specs.Fascn.{decimal_at}
 use Rattle.card.proofs.fascn.order.all_decimal.Goals as goal
 

@@ -1,5 +1,4 @@
 -- `card::fascn::order::characters_of` meets its contract: it lays out the characters of the digits and the marks. Assumes nothing.
-use borrow.Author.Rules.{rules}
 use Rattle.card.proofs.OrderLaws.{chars_in-order}
 use Rattle.card.proofs.fascn.order.characters_of.Goals as goal
 

@@ -1,9 +1,7 @@
 -- `card::fascn::order::check_value` meets its contract: a turn adds a digit. Assumes nothing.
 use mathlib.Core.Path.{◌≡◌, refl}
-use Prim.Native.Nat.{◌-◌, ◌≤◌}
 use native.Mathlib.Omega.{arith}
 use borrow.Author.Rules.{rules}
-use lib.Bits.{bit_xor}
 use lib.ListN.{get_or}
 use Rattle.common.specs.Lists.{list_of, xor_of}
 use Rattle.card.specs.Fascn.{order}

@@ -1,14 +1,11 @@
 -- `card::fascn::order::check_value` meets its contract: a turn adds a digit. Assumes nothing.
-use mathlib.Core.Path.{◌≡◌, refl}
+use mathlib.Core.Path.{◌≡◌}
 use Prim.Native.Nat.{◌-◌, ◌≤◌}
-use native.Mathlib.Omega.{arith}
-use borrow.Author.Rules.{rules}
 use lib.Bits.{bit_xor}
 use lib.ListN.{get_or}
 use Rattle.common.specs.Lists.{list_of, xor_of}
 use Rattle.card.specs.Fascn.{order}
-use Rattle.card.specs.FascnCode.{marks_of, check_digits}
-use Rattle.common.proofs.XorLaws.{xor_of_more}
+use Rattle.card.specs.FascnCode.{marks_of}
 use Rattle.card.proofs.fascn.order.check_value.Given as goal
 
 abbrev pub invariant-loop-k : goal.invariant-loop-k

@@ -1,9 +1,7 @@
 -- `card::fascn::order::copy_run` meets its contract: a turn stores number j. Assumes nothing.
 use mathlib.Core.Path.{refl}
-use Prim.Native.Nat.{◌+◌, ◌-◌}
 use borrow.Author.Rules.{rules}
-use lib.ListN.{get_or}
-use Rattle.common.proofs.LoopLaws.{WrittenSoFar, writing_none, writing_more, writing_end}
+use Rattle.common.proofs.LoopLaws.{writing_none, writing_more, writing_end}
 use Rattle.card.proofs.fascn.order.copy_run.Goals as goal
 
 pub loop-j-init : goal.loop-j-init

@@ -1,10 +1,7 @@
 -- `card::fascn::order::digit_characters` meets its contract: a turn stores character k. Assumes nothing.
 use mathlib.Core.Path.{refl}
-use Prim.Native.Nat.{◌-◌}
 use borrow.Author.Rules.{rules}
-use lib.ListN.{get_or}
-use Rattle.common.proofs.LoopLaws.{WrittenSoFar, writing_none, writing_front, writing_whole}
-use Rattle.card.specs.FascnCode.{char_of}
+use Rattle.common.proofs.LoopLaws.{writing_none, writing_front, writing_whole}
 use Rattle.card.proofs.fascn.order.digit_characters.Goals as goal
 
 pub loop-k-init : goal.loop-k-init

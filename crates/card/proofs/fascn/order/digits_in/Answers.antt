@@ -1,5 +1,4 @@
 -- `card::fascn::order::digits_in_lem` meets its contract: each run of digits is copied to its place. Assumes nothing.
-use borrow.Author.Rules.{rules}
 use Rattle.common.specs.Lists.{list_of, slice_of, written}
 use Rattle.card.specs.Fascn.{digits_from}
 use Rattle.card.proofs.fascn.order.digits_in.Goals as goal

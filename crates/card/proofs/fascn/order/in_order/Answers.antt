@@ -1,5 +1,4 @@
 -- `card::fascn::order::in_order` meets its contract: each run of characters is copied to its place, between the marks. Assumes nothing.
-use borrow.Author.Rules.{rules}
 use Rattle.common.specs.Lists.{list_of, slice_of, written}
 use Rattle.card.specs.Fascn.{values_from}
 use Rattle.card.specs.FascnCode.{in_order, marks_mapped}
