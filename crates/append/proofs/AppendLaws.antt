@@ -11,7 +11,6 @@ use borrow.Author.Tests.{lt-ltb, le-ltb, leb-true, leb-false}
 use lib.Dec.{ltb, leb, lit≤}
 use lib.ListN.{length, take, drop, take-append-drop, length-append, length-take, length-drop, drop_of_length-le}
 use lib.Seq.{take_all, take_at, take-append_seam, take-append-add, drop-append-add, drop-drop, length-take-le}
-use Rattle.io.specs.Digits.{hex_digit_ascii, last_digits, IsDigitCount}
 use Rattle.common.specs.Lists.{list_of, written, over_front, over_places}
 use Rattle.common.proofs.ListsLaws.{length-list_of, list_of-append, length_front, take_most}
 use Rattle.common.proofs.TestLaws.{either}
@@ -194,6 +193,18 @@ hex_part d s at n {l} h e p =
     record { is = ap (λ (x : List ℕ). (at + n, x)) whole ∙ added-part d (hex_of s) (list_of n f) at n h size (sym t) }
 
 -- ---- numbers
+
+-- the digits by their count, as the kit's `io` says it: the ASCII code of a digit below 16; the last k digits of n in
+-- base b; and that n takes k digits, at least `width` of them
+abbrev pub hex_digit_ascii : ℕ → ℕ
+hex_digit_ascii d = cond (ltb d 10) (48 + d) (87 + d)
+
+abbrev pub last_digits : ℕ → ℕ → ℕ → List ℕ
+last_digits b zero n = []
+last_digits b (suc k) n = last_digits b k (n / b) ++ (hex_digit_ascii (n % b) ∷ [])
+
+abbrev pub IsDigitCount : ℕ → ℕ → ℕ → ℕ → Type 0
+IsDigitCount b width n k = (width ≤ k) × (n < b ^ k) × (width < k → b ^ (k - 1) ≤ n)
 
 glyph_is : (d : ℕ) → d < 10 → hex_digit_ascii d ≡ 48 + d
 glyph_is d h = rw (lt-ltb d 10 h)

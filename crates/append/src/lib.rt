@@ -1,6 +1,7 @@
 // Text written into a lent buffer after what stands there: bytes, hexadecimal digits, and numbers in decimal.
 #![tactic(auto)]
 
+ghost use Rattle.std.specs.Prelude.{◌≡◌, ◌<◌, drop};
 ghost use Rattle.text.specs.Hex.{hex_of};
 ghost use Rattle.append.specs.Append.{Added, number_text};
 
@@ -33,11 +34,27 @@ pub fn add_hex(out: &mut [u8], at: usize, s: &[u8]) -> usize
     at + n
 }
 
+// The digits of n in decimal, stored at the end of out; the place where they begin.
+fn put_decimal(n: u64, out: &mut [u8; DECIMAL]) -> usize
+    ensures inside { result < 20 }
+    ensures stores { drop result out.new ≡ number_text n }
+{
+    let mut k = DECIMAL - 1;
+    let mut rest = n;
+    while rest >= 10 {
+        out[k] = 48 + (rest % 10) as u8;
+        rest /= 10;
+        k -= 1;
+    }
+    out[k] = 48 + rest as u8;
+    k
+}
+
 // The number n in decimal.
 pub fn add_decimal(out: &mut [u8], at: usize, n: u64) -> usize
     ensures { Added out.old at out.new result (number_text n) }
 {
     let mut digits = [0u8; DECIMAL];
-    let k = io::decimal(n, &mut digits);
-    add(out, at, &digits[..k])
+    let k = put_decimal(n, &mut digits);
+    add(out, at, &digits[k..])
 }

@@ -1,7 +1,6 @@
 -- `append::add_hex` meets its contract: the digits are stored in the rest of the buffer. Assumes nothing.
 use mathlib.Core.Path.{sym}
 use native.Mathlib.Omega.{arith}
-use borrow.Author.Rules.{rules}
 use Rattle.append.proofs.AppendLaws.{added_full, hex_part}
 use Rattle.append.proofs.add_hex.Goals as goal
 
