@@ -40,12 +40,10 @@ block x s i h p = passed x s i 32 h (λ j k. not-true _ (all_at (λ j. not (eqb 
 pub returns-then-s-i-lt-BLOCK : goal.returns-then-s-i-lt-BLOCK
 returns-then-s-i-lt-BLOCK c = record { is = c.loop-i.invariant.1; inside = c.loop-i.invariant.0 }
 
-pub returns-then-not-none_of : goal.returns-then-not-none_of
-returns-then-not-none_of c = record { is = c.loop-i.invariant.1; inside = c.loop-i.invariant.0 }
-
 pub loop-i-preserved : goal.loop-i-preserved
 loop-i-preserved c =
-    let e = block c.args.x c.args.s.now c.loop-i.i (omega arith) (sym c.none_of.ensures ∙ c.if-not-none_of.false) in
+    let absent : c.none_of.result ≡ true = search rules in
+    let e = block c.args.x c.args.s.now c.loop-i.i (omega arith) (sym c.none_of.ensures ∙ absent) in
     (omega arith, c.loop-i.invariant.1 ∙ sym e)
 
 pub returns : goal.returns
