@@ -132,9 +132,9 @@ one_read {q} {r} w t =
 
 list_same : {q r : Reading} → SameCard q r → (ts : List Arguments) → SameCard (reading q ts) (reading r ts) × (refusals q ts ≡ refusals r ts)
 list_same w [] = (w, refl)
-list_same w (t ∷ ts) =
+list_same {q = q} {r = r} w (t ∷ ts) =
     let now = one_read w t in
-    let later = list_same now.0 ts in
+    let later = list_same {q = read q t} {r = read r t} now.0 ts in
     (later.0, ap₂ (λ (n : ℕ) (ns : List ℕ). cond (has_number t) (n ∷ ns) ns) now.1 later.1)
 
 -- ---- two readings that a cause has ended, with unlike joined data

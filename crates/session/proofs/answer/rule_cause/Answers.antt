@@ -1,7 +1,6 @@
 -- `session::answer::rule_cause` meets its contract: each rule is a test of the code. Assumes nothing.
 use mathlib.Core.Path.{sym, ◌∙◌}
 use borrow.Author.Tests.{lt-ltb, le-ltb}
-use borrow.Author.Rules.{rules}
 use Rattle.session.specs.Tables.{rule_cause}
 use Rattle.session.proofs.answer.rule_cause.Goals as goal
 

@@ -1,5 +1,4 @@
 -- `session::arrays::array_aid` meets its contract: the bytes fit. Assumes nothing.
-use borrow.Author.Rules.{rules}
 use native.Mathlib.Omega.{arith}
 use mathlib.Core.Path.{◌∙◌}
 use Rattle.common.proofs.StoreLaws.{store_first}

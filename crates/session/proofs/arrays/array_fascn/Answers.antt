@@ -1,5 +1,4 @@
 -- `session::arrays::array_fascn` meets its contract: the bytes are as many as the array has. Assumes nothing.
-use borrow.Author.Rules.{rules}
 use native.Mathlib.Omega.{arith}
 use mathlib.Core.Path.{◌∙◌}
 use lib.ListN.{replicate}

@@ -2,7 +2,6 @@
 use mathlib.Core.Path.{◌≡◌}
 use Prim.Native.Nat.{◌+◌, ◌-◌}
 use native.Mathlib.Omega.{arith}
-use borrow.Author.Rules.{rules}
 use lib.ListN.{length}
 use Rattle.card.specs.Object.{field_part, field_value, bytes_at}
 use Rattle.card.proofs.ObjectLaws.{Inside, part_inside_lem}
@@ -18,8 +17,8 @@ inside c = rw (part_is c) (part_inside_lem _ _ _)
 pub overflow_add-end : goal.overflow_add-end
 overflow_add-end c = omega (arith, inside (goal.at.overflow_add-end c).After-part_of-p)
 
-pub slice-bounds-result-end : goal.slice-bounds-result-end
-slice-bounds-result-end c = (rw (part_is c) (part_inside_lem _ _ _))
+pub slice_bounds-result-end : goal.slice_bounds-result-end
+slice_bounds-result-end c = inside (goal.at.slice_bounds-result-end c).After-part_of-p
 
 pub returns : goal.returns
 unfolding field_value bytes_at

@@ -1,6 +1,5 @@
 -- `session::judge::list_outcome` meets its contract. Assumes nothing.
 use mathlib.Core.Path.{sym, ◌∙◌}
-use borrow.Author.Rules.{rules}
 use Rattle.session.specs.Tables.{list_outcome}
 use Rattle.session.proofs.judge.list_outcome.Goals as goal
 

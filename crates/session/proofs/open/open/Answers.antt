@@ -1,5 +1,4 @@
 -- `session::open::open` meets its contract: the opening is accepted or refused. Assumes nothing.
-use borrow.Author.Rules.{rules}
 use mathlib.Core.Path.{sym, ◌∙◌}
 use Rattle.session.specs.Operation.{opened, dead, open_of}
 use Rattle.session.proofs.CallLaws.{open_fits, accepts, refuses}
@@ -12,9 +11,11 @@ opened-session-requires c = open_fits _ _ _ (sym (c.number.ensures ∙ c.open_re
 pub returns-then-number-eq0 : goal.returns-then-number-eq0
 unfolding open_of
 returns-then-number-eq0 c =
-    open_both _ _ _ (accepts dead c.open_refusal-reply.ensures (sym c.number.ensures ∙ c.if-number-eq0.true) c.opened-session.ensures)
+    let h = open_both c.args.mode c.args.date c.args.aid.now (accepts dead c.open_refusal-reply.ensures (sym c.number.ensures ∙ c.if-number-eq0.true) c.opened-session.ensures) in
+    record { result_value = h.0; for_every_list = h.1 }
 
 pub returns : goal.returns
 unfolding open_of
 returns c =
-    open_both _ _ _ (refuses (opened _ _ _) c.open_refusal-reply.ensures (λ e. c.if-number-eq0.false (c.number.ensures ∙ e)) c.dead_session-session.ensures)
+    let h = open_both c.args.mode c.args.date c.args.aid.now (refuses (opened c.args.mode c.args.date c.args.aid.now) c.open_refusal-reply.ensures (λ e. c.if-number-eq0.false (c.number.ensures ∙ e)) c.dead_session-session.ensures) in
+    record { result_value = h.0; for_every_list = h.1 }

@@ -1,5 +1,4 @@
 -- `session::open::open_refusal` meets its contract: its tests are the conditions, in their order. Assumes nothing.
-use borrow.Author.Rules.{rules}
 use Rattle.session.specs.Operation.{open_refusal}
 use Rattle.session.proofs.open.open_refusal.Goals as goal
 

@@ -1,5 +1,4 @@
 -- `session::open::opened` meets its contract: each group is the definition's. Assumes nothing.
-use borrow.Author.Rules.{rules}
 use Rattle.session.specs.Operation.{opened}
 use Rattle.session.proofs.open.opened.Goals as goal
 

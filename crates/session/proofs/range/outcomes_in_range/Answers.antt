@@ -1,11 +1,7 @@
 -- `session::range::outcomes_in_range` meets its contract: a turn adds the test of one outcome. Assumes nothing.
 use borrow.Author.Rules.{rules}
 use mathlib.Core.Path.{refl}
-use Prim.Native.Nat.{◌-◌}
-use lib.Dec.{leb}
-use lib.ListN.{get_or}
-use Rattle.common.proofs.LoopLaws.{TestedSoFar, testing_none, testing_more, testing_end}
-use Rattle.session.specs.Tables.{checks}
+use Rattle.common.proofs.LoopLaws.{testing_none, testing_more, testing_end}
 use Rattle.session.specs.Ranges.{outcomes_in_range}
 use Rattle.session.proofs.range.outcomes_in_range.Goals as goal
 
@@ -16,4 +12,5 @@ pub loop-i-preserved : goal.loop-i-preserved
 loop-i-preserved c = testing_more c.loop-i.invariant (search rules) refl
 
 pub returns : goal.returns
+unfolding outcomes_in_range
 returns c = testing_end c.loop-i.invariant (search rules)

@@ -2,13 +2,9 @@
 use borrow.Author.Rules.{rules}
 use mathlib.Core.Path.{◌≡◌}
 use native.Mathlib.Omega.{arith}
-use mathlib.Core.Bool.{not, ◌||◌}
-use Prim.Native.Nat.{◌+◌, ◌-◌}
-use lib.Dec.{eqb}
-use lib.ListN.{length, get_or}
-use Rattle.common.proofs.LoopLaws.{TestedSoFar, testing_none, testing_more, testing_end}
-use Rattle.session.specs.Tables as tables
-use Rattle.session.specs.Tables.{checks, passed, all_passed}
+use lib.ListN.{length}
+use Rattle.common.proofs.LoopLaws.{testing_none, testing_more, testing_end}
+use Rattle.session.specs.Tables.{checks, all_passed}
 use Rattle.session.proofs.tables.all_passed.Goals as goal
 
 pub returns : goal.returns

@@ -1,5 +1,4 @@
 -- `session::tables::capacity` meets its contract: by step and mode. Assumes nothing.
-use borrow.Author.Rules.{rules}
 use Rattle.session.specs.Tables.{capacity}
 use Rattle.session.proofs.tables.capacity.Goals as goal
 

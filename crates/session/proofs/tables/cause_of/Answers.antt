@@ -1,6 +1,5 @@
 -- `session::tables::cause_of` meets its contract: by what arose. Assumes nothing.
 use borrow.Author.Tests.{eq-eqb, ne_eqb}
-use borrow.Author.Rules.{rules}
 use Rattle.session.specs.Tables.{cause_of}
 use Rattle.session.proofs.tables.cause_of.Goals as goal
 

@@ -1,12 +1,7 @@
 -- `session::tables::lowest_failed` meets its contract: a turn looks at the outcome of one check, the last first. Assumes nothing.
-use borrow.Author.Rules.{rules}
-use native.Mathlib.Omega.{arith}
-use mathlib.Core.Path.{◌≡◌, ◌∙◌}
-use mathlib.Core.Logic.{⊎_elim}
-use mathlib.Core.List.{[]}
-use Prim.Native.Nat.{◌+◌, ◌-◌, ◌≤◌}
-use lib.ListN.{drop, drop_of_length-le}
-use Rattle.session.proofs.TablesLaws.{lowest_here, lowest_later}
+use mathlib.Core.Path.{◌≡◌}
+use Prim.Native.Nat.{◌+◌, ◌≤◌}
+use lib.ListN.{drop}
 use Rattle.session.specs.Tables.{checks, lowest_from}
 use Rattle.session.proofs.tables.lowest_failed.Given as goal
 

@@ -1,5 +1,4 @@
 -- `session::tables::needed_at` meets its contract: by whether the mode needs the check. Assumes nothing.
-use borrow.Author.Rules.{rules}
 use mathlib.Core.Path.{sym, ◌∙◌}
 use Rattle.session.specs.Tables.{needed_at}
 use Rattle.session.proofs.tables.needed_at.Goals as goal

@@ -1,6 +1,5 @@
 -- `session::tables::standing_of` meets its contract: its tests are the definition's. Assumes nothing.
 use borrow.Author.Tests.{eq-eqb, ne_eqb}
-use borrow.Author.Rules.{rules}
 use mathlib.Core.Path.{sym}
 use Rattle.session.specs.Tables.{standing_of}
 use Rattle.session.proofs.tables.standing_of.Goals as goal

@@ -1,7 +1,6 @@
 -- `session::verdict::verdict_outcome` meets its contract: each test of the definition is one of the code. Assumes nothing.
 use mathlib.Core.Path.{sym, ◌∙◌}
 use borrow.Author.Tests.{eq-eqb, ne_eqb}
-use borrow.Author.Rules.{rules}
 use Rattle.session.specs.Tables.{verdict_outcome}
 use Rattle.session.proofs.verdict.verdict_outcome.Goals as goal
 

@@ -1,5 +1,4 @@
 -- `session::range::Values::out_of_range` meets its contract: its tests are the definition's. Assumes nothing.
-use borrow.Author.Rules.{rules}
 use Rattle.session.specs.Ranges.{values_in_range}
 use Rattle.session.proofs.range.Values.out_of_range.Goals as goal
 

@@ -2,11 +2,9 @@
 use mathlib.Core.Path.{◌≡◌, sym, ◌∙◌}
 use Prim.Native.Nat.{◌-◌}
 use native.Mathlib.Omega.{arith}
-use borrow.Author.Rules.{rules}
 use lib.ListN.{take, length, drop, length-drop}
 use lib.Seq.{length-take-le, take_all}
 use Rattle.session.specs.Operation.{reply_number}
-use Rattle.session.specs.Promise.{Bytes}
 use Rattle.session.proofs.CallLaws.{answer_taken_lem, answer_refused_lem, Fitting, answer_fits}
 use Rattle.session.proofs.CallPromiseLaws.{answer_all}
 use Rattle.session.proofs.RangesLaws.{filled_in_range}
@@ -39,7 +37,11 @@ take_answer-session-requires c =
 
 pub returns-then-number-eq0 : goal.returns-then-number-eq0
 returns-then-number-eq0 c =
-    answer_all _ _ _ _ _ (bytes (goal.at.returns-then-number-eq0 c).Then-number-eq0) (answer_taken_lem c.args.self c.args.object.now c.args.answer.now c.args.cancelled.now c.answer_refusal-reply.ensures (accepted_is (goal.at.returns-then-number-eq0 c).Then-number-eq0) (rw (← status_part (goal.at.returns-then-number-eq0 c).Then-number-eq0) c.take_answer-session.ensures.value) (rw (← status_part (goal.at.returns-then-number-eq0 c).Then-number-eq0) c.take_answer-session.ensures.object_after))
+    let h =
+    answer_all c.args.self c.args.object.now c.args.answer.now c.args.cancelled.now _ (λ i. omega (arith, c.type_inv.answer i)) (answer_taken_lem c.args.self c.args.object.now c.args.answer.now c.args.cancelled.now c.answer_refusal-reply.ensures (accepted_is (goal.at.returns-then-number-eq0 c).Then-number-eq0) (rw (← status_part (goal.at.returns-then-number-eq0 c).Then-number-eq0) c.take_answer-session.ensures.value) (rw (← status_part (goal.at.returns-then-number-eq0 c).Then-number-eq0) c.take_answer-session.ensures.object_after)) in
+    record { result_value = h.0; object_after = h.1.0; for_every_list = h.1.1 }
 
 pub returns : goal.returns
-returns c = answer_all _ _ _ _ _ (λ i. omega (arith, c.shared_slice_known-1.given i)) (answer_refused_lem _ _ _ _ c.answer_refusal-reply.ensures (λ z. c.if-number-eq0.false (c.number.ensures ∙ z)))
+returns c =
+    let h = answer_all c.args.self c.args.object.now c.args.answer.now c.args.cancelled.now _ (λ i. omega (arith, c.type_inv.answer i)) (answer_refused_lem c.args.self c.args.object.now c.args.answer.now c.args.cancelled.now c.answer_refusal-reply.ensures (λ z. c.if-number-eq0.false (c.number.ensures ∙ z))) in
+    record { result_value = h.0; object_after = h.1.0; for_every_list = h.1.1 }

@@ -1,7 +1,6 @@
 -- `session::state::Session::answer_refusal` meets its contract: each condition is a test of the code. Assumes nothing.
 use mathlib.Core.Path.{sym, ◌∙◌}
 use borrow.Author.Tests.{eq-eqb, ne_eqb}
-use borrow.Author.Rules.{rules}
 use Rattle.session.specs.Tables.{object_size}
 use Rattle.session.specs.Operation.{answer_refusal}
 use Rattle.session.proofs.RangesLaws.{values_test}

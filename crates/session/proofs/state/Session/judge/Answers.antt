@@ -2,7 +2,6 @@
 use mathlib.Core.Path.{◌≡◌, sym, ap, ◌∙◌}
 use Prim.Native.Nat.{ℕ}
 use borrow.Author.Tests.{ne_eqb}
-use borrow.Author.Rules.{rules}
 use Rattle.card.specs.Object.{object_of, object_answer}
 use Rattle.session.specs.Tables.{kind_at, object_cause, joined_cause}
 use Rattle.session.specs.Operation.{good_end_session, judged_session}

@@ -2,7 +2,6 @@
 use mathlib.Core.Path.{◌≡◌, sym, ap, ◌∙◌}
 use mathlib.Core.List.{List}
 use Prim.Native.Nat.{ℕ}
-use borrow.Author.Rules.{rules}
 use Rattle.card.specs.Fascn.{unpack_of, unpacked, key_of}
 use Rattle.card.specs.Date.{date_of, date_answer}
 use Rattle.card.specs.Object.{expiry_tag, field_value}
@@ -27,10 +26,14 @@ date_is : (c : goal.After-read-date) → date_answer c.read-date.result ≡ date
 date_is c = rw (← c.kind_at-kind.ensures, ← c.field_value.ensures) c.read-date.ensures
 
 date_number_is : (c : goal.After-number-2) → c.number-2.result ≡ (date_of (field_value (kind_at c.args.self.opening.mode 1) expiry_tag c.args.joined.now)).0
-date_number_is c = c.number-2.ensures ∙ ap (λ (p : ℕ × ℕ). p.0) ((rw (← c.kind_at-kind.ensures, ← c.field_value-bytes.ensures) c.read-date.ensures))
+date_number_is c =
+    let e : date_answer c.read-date.result ≡ date_of (field_value (kind_at c.args.self.opening.mode 1) expiry_tag c.args.joined.now) = rw (← c.kind_at-kind.ensures, ← c.field_value.ensures) c.read-date.ensures in
+    c.number-2.ensures ∙ ap (λ (p : ℕ × ℕ). p.0) e
 
 expiry_is : (c : goal.After-date_number-expiry) → c.date_number-expiry.result ≡ expiry_read c.args.self.opening.mode c.args.joined.now
-expiry_is c = c.date_number-expiry.ensures ∙ ap (λ (p : ℕ × ℕ). p.1) ((rw (← c.kind_at-kind.ensures, ← c.field_value-bytes.ensures) c.read-date.ensures))
+expiry_is c =
+    let e : date_answer c.read-date.result ≡ date_of (field_value (kind_at c.args.self.opening.mode 1) expiry_tag c.args.joined.now) = rw (← c.kind_at-kind.ensures, ← c.field_value.ensures) c.read-date.ensures in
+    c.date_number-expiry.ensures ∙ ap (λ (p : ℕ × ℕ). p.1) e
 
 key_is : (c : goal.After-key_of-key) → c.key_of-key.result.0 ≡ key_read c.args.self.opening.mode c.args.joined.now
 key_is c = c.key_of-key.ensures ∙ ap (λ (p : ℕ × List ℕ). key_of p.1) ((c.unpack-unpacked.ensures ∙ ap unpack_of ((rw (← c.kind_at-kind.ensures) c.field_value-bytes.ensures))))

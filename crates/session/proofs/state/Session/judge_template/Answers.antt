@@ -1,7 +1,6 @@
 -- `session::state::Session::judge_template` meets its contract: step 1 begins, or the cause ends the reading. Assumes nothing.
 use mathlib.Core.Path.{◌∙◌}
 use borrow.Author.Tests.{eq-eqb}
-use borrow.Author.Rules.{rules}
 use Rattle.session.specs.Tables.{joined_cause}
 use Rattle.session.specs.Operation.{good_end_session, judged_session}
 use Rattle.session.proofs.CallLaws.{none, some}

@@ -1,5 +1,4 @@
 -- `session::state::Session::stamp_head` meets its contract: byte by byte. Assumes nothing.
-use borrow.Author.Rules.{rules}
 use Rattle.session.specs.Operation.{stamp_head}
 use Rattle.session.proofs.state.Session.stamp_head.Goals as goal
 

@@ -1,5 +1,4 @@
 -- `session::state::Session::stamp_refusal` meets its contract: its tests are the conditions, in their order. Assumes nothing.
-use borrow.Author.Rules.{rules}
 use Rattle.session.specs.Operation.{stamp_refusal}
 use Rattle.session.proofs.RangesLaws.{values_test}
 use Rattle.session.proofs.state.Session.stamp_refusal.Goals as goal

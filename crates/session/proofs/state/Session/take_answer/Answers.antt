@@ -3,7 +3,6 @@ use mathlib.Core.Path.{◌≡◌, sym, ◌∙◌}
 use Prim.Native.Nat.{◌+◌, ◌-◌, ◌≤◌}
 use native.Mathlib.Omega.{arith}
 use borrow.Author.Tests.{eq-eqb, ne_eqb}
-use borrow.Author.Rules.{rules}
 use lib.ListN.{length}
 use Rattle.common.specs.Lists.{over_places}
 use Rattle.common.proofs.StoreLaws.{store_fits}
@@ -30,14 +29,17 @@ overflow_add-at c = omega (arith, object_small, end_fits (goal.at.overflow_add-a
 
 -- what is stored fits
 stored : (c : goal.After-store) → c.store.new.out ≡ over_places c.args.object.now (c.base_of-base.result + c.args.self.progress.filled) c.args.bytes.now
-stored c = c.store.ensures ∙ store_fits c.args.object.now c.args.bytes.now (c.base_of-base.result + c.args.self.progress.filled) (omega (arith, (omega (arith, base_fits c.args.self.opening.mode c.args.self.progress.step, c.base_of-base.ensures, rule_fits _ _ _ _ _ (sym c.cause_in-cause.ensures ∙ c.if-cause-eq0.true))), c.requires.0))
+stored c =
+    let fits : c.base_of-base.result + c.args.self.progress.filled + length c.args.bytes.now ≤ object_size =
+    omega (arith, base_fits c.args.self.opening.mode c.args.self.progress.step, c.base_of-base.ensures, rule_fits _ _ _ _ _ (sym c.cause_in-cause.ensures ∙ c.if-cause-eq0.true)) in
+    c.store.ensures ∙ store_fits c.args.object.now c.args.bytes.now (c.base_of-base.result + c.args.self.progress.filled) (omega (arith, fits, c.requires.0))
 
 pub overflow_add-end : goal.overflow_add-end
 overflow_add-end c = omega (arith, object_small, end_fits (goal.at.overflow_add-end c).After-base_of-base)
 
-pub slice-bounds-appended-end : goal.slice-bounds-appended-end
-slice-bounds-appended-end c =
-    omega (arith, c.store.auto.0, (omega (arith, base_fits c.args.self.opening.mode c.args.self.progress.step, c.base_of-base.ensures, rule_fits _ _ _ _ _ (sym c.cause_in-cause.ensures ∙ c.if-cause-eq0.true))), c.requires.0)
+pub slice_bounds-appended-end : goal.slice_bounds-appended-end
+slice_bounds-appended-end c =
+    omega (arith, end_fits (goal.at.slice_bounds-appended-end c).After-base_of-base, c.requires.0)
 
 pub appended-requires : goal.appended-requires
 appended-requires c =

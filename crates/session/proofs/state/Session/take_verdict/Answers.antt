@@ -1,5 +1,4 @@
 -- `session::state::Session::take_verdict` meets its contract: one outcome is set. Assumes nothing.
-use borrow.Author.Rules.{rules}
 use Rattle.session.specs.Operation.{verdict_taken_session}
 use Rattle.session.proofs.state.Session.take_verdict.Goals as goal
 

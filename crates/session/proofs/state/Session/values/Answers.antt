@@ -1,5 +1,4 @@
 -- `session::state::Session::values` meets its contract. Assumes nothing.
-use borrow.Author.Rules.{rules}
 use Rattle.session.specs.Ranges.{ranged_values}
 use Rattle.session.proofs.FigureLaws.{base_inside}
 use Rattle.session.proofs.state.Session.values.Goals as goal

@@ -1,6 +1,5 @@
 -- `session::state::Session::write_command` meets its contract: by the next command. Assumes nothing.
 use mathlib.Core.Path.{◌∙◌}
-use borrow.Author.Rules.{rules}
 use Rattle.session.proofs.SendLaws.{initial_next, get_response_next, initial_again_next, get_response_again_next}
 use Rattle.session.proofs.state.Session.write_command.Goals as goal
 

@@ -1,5 +1,4 @@
 -- `session::state::Session::write_stamp` meets its contract: each store lengthens the front. Assumes nothing.
-use borrow.Author.Rules.{rules}
 use mathlib.Core.Path.{◌≡◌, refl, sym, ap, ◌∙◌}
 use native.Mathlib.Omega.{arith}
 use mathlib.Core.List.{◌++◌}
@@ -21,8 +20,8 @@ returns c =
     let h-long : length c.stamp_head-head.result ≡ head_size = ap length c.stamp_head-head.ensures ∙ head_length c.args.self in
     let d-long = ap length c.four_bytes-date.ensures in
     let e-long = ap length c.four_bytes-expiry.ensures in
-    let c = c.store.ensures ∙ store_first c.args.out.now c.stamp_head-head.result (omega (arith, c.requires, h-long)) in
-    let second = c.store-2.ensures ∙ store_next c.stamp_head-head.result c.args.self.outcomes c.args.out.now c (sym h-long) (omega (arith, c.requires, h-long, c.sized_outcomes.ensures)) in
+    let first = c.store.ensures ∙ store_first c.args.out.now c.stamp_head-head.result (omega (arith, c.requires, h-long)) in
+    let second = c.store-2.ensures ∙ store_next c.stamp_head-head.result c.args.self.outcomes c.args.out.now first (sym h-long) (omega (arith, c.requires, h-long, c.sized_outcomes.ensures)) in
     let ho = length-append c.stamp_head-head.result c.args.self.outcomes in
     let third = c.store-3.ensures ∙ store_next (c.stamp_head-head.result ++ c.args.self.outcomes) c.four_bytes-date.result c.args.out.now second (omega (arith, ho, h-long, c.sized_outcomes.ensures)) (omega (arith, c.requires, ho, h-long, c.sized_outcomes.ensures, d-long)) in
     let hod = length-append (c.stamp_head-head.result ++ c.args.self.outcomes) c.four_bytes-date.result in
