@@ -15,8 +15,7 @@ use ccl::line::LINE;
 use session::figures::{ANSWER_MOST, OBJECT, STAMP};
 
 // Unpack: the 32 digits of a FASC-N.
-#[unsafe(no_mangle)]
-pub extern "C" fn gate_unpack(fascn: &[u8], digits: &mut [u8; DIGITS]) -> u8
+pub fn gate_unpack(fascn: &[u8], digits: &mut [u8; DIGITS]) -> u8
     ensures number { result ≡ (unpack_of fascn.now).0 }
     ensures is { digits.new ≡ where_number 0 result (unpack_of fascn.now).1 digits.old }
 {
@@ -31,8 +30,7 @@ pub extern "C" fn gate_unpack(fascn: &[u8], digits: &mut [u8; DIGITS]) -> u8
 }
 
 // Pack: the 25 bytes of the FASC-N with 32 digits.
-#[unsafe(no_mangle)]
-pub extern "C" fn gate_pack(digits: &[u8; DIGITS], fascn: &mut [u8; FASCN_BYTES]) -> u8
+pub fn gate_pack(digits: &[u8; DIGITS], fascn: &mut [u8; FASCN_BYTES]) -> u8
     ensures number { result ≡ (pack_of digits.now).0 }
     ensures is { fascn.new ≡ where_number 0 result (pack_of digits.now).1 fascn.old }
 {
@@ -47,8 +45,7 @@ pub extern "C" fn gate_pack(digits: &[u8; DIGITS], fascn: &mut [u8; FASCN_BYTES]
 }
 
 // Key: the first 16 of 32 digits as one number.
-#[unsafe(no_mangle)]
-pub extern "C" fn gate_key(digits: &[u8; DIGITS]) -> u64
+pub fn gate_key(digits: &[u8; DIGITS]) -> u64
     ensures { result ≡ key_of digits.now }
 {
     let key = fascn::key_of(*digits);
@@ -72,8 +69,7 @@ pub struct Sizes {
 }
 
 // The sizes, so that a host can hold the constants of gate.h against the archive that it is linked with.
-#[unsafe(no_mangle)]
-pub extern "C" fn gate_sizes() -> Sizes
+pub fn gate_sizes() -> Sizes
     ensures session { result.session ≡ image_size }
     ensures object { result.object ≡ object_size }
     ensures stamp { result.stamp ≡ stamp_size since }

@@ -34,8 +34,7 @@ fn keep(x: Answered, image: &mut [u8; IMAGE]) -> u8
 }
 
 // Open: an accepted opening puts its session into the image. A refused one leaves what was there, as every refused call does.
-#[unsafe(no_mangle)]
-pub extern "C" fn gate_open(image: &mut [u8; IMAGE], mode: u8, date: u32, aid: &[u8]) -> u8
+pub fn gate_open(image: &mut [u8; IMAGE], mode: u8, date: u32, aid: &[u8]) -> u8
     ensures number { result ≡ (open_of mode date aid.now).0 }
     ensures is { image.new ≡ image_after image.old (open_of mode date aid.now) }
     ensures for_every_list { OpenPromise mode date aid.now result (load_of image.new) }
@@ -44,8 +43,7 @@ pub extern "C" fn gate_open(image: &mut [u8; IMAGE], mode: u8, date: u32, aid: &
 }
 
 // Command: its bytes at the front of out, and their count.
-#[unsafe(no_mangle)]
-pub extern "C" fn gate_command(image: &mut [u8; IMAGE], out: &mut [u8], count: &mut usize) -> u8
+pub fn gate_command(image: &mut [u8; IMAGE], out: &mut [u8], count: &mut usize) -> u8
     ensures number { result ≡ (command_of (load_of image.old) (length out.old)).0 }
     ensures counts { count.new ≡ where_number 0 result (command_of (load_of image.old) (length out.old)).1 count.old }
     ensures is { image.new ≡ image_after image.old (result, (command_of (load_of image.old) (length out.old)).2) }
@@ -61,8 +59,7 @@ pub extern "C" fn gate_command(image: &mut [u8; IMAGE], out: &mut [u8], count: &
 }
 
 // Answer.
-#[unsafe(no_mangle)]
-pub extern "C" fn gate_answer(
+pub fn gate_answer(
     image: &mut [u8; IMAGE],
     object: &mut [u8],
     answer: &[u8],
@@ -78,8 +75,7 @@ pub extern "C" fn gate_answer(
 }
 
 // Verdict.
-#[unsafe(no_mangle)]
-pub extern "C" fn gate_verdict(image: &mut [u8; IMAGE], kind: u8, yes: u8, fascn: &[u8]) -> u8
+pub fn gate_verdict(image: &mut [u8; IMAGE], kind: u8, yes: u8, fascn: &[u8]) -> u8
     ensures number { result ≡ (verdict_of (load_of image.old) kind yes fascn.now).0 }
     ensures is { image.new ≡ image_after image.old (verdict_of (load_of image.old) kind yes fascn.now) }
     ensures for_every_list { VerdictPromise (load_of image.old) kind yes fascn.now result (load_of image.new) }
@@ -89,14 +85,7 @@ pub extern "C" fn gate_verdict(image: &mut [u8; IMAGE], kind: u8, yes: u8, fascn
 }
 
 // Preview: the stamp that this verdict and then a stamp call would write, to the first 46 bytes of out.
-#[unsafe(no_mangle)]
-pub extern "C" fn gate_preview(
-    image: &[u8; IMAGE],
-    kind: u8,
-    yes: u8,
-    fascn: &[u8],
-    out: &mut [u8],
-) -> u8
+pub fn gate_preview(image: &[u8; IMAGE], kind: u8, yes: u8, fascn: &[u8], out: &mut [u8]) -> u8
     ensures is { (result, out.new) ≡ preview_of (load_of image.now) kind yes fascn.now out.old }
     ensures for_every_list { PreviewPromise (load_of image.now) kind yes fascn.now out.old out.new result }
 {
@@ -105,8 +94,7 @@ pub extern "C" fn gate_preview(
 }
 
 // Field: where its value lies in the object buffer; no bytes where the field call gives the empty part.
-#[unsafe(no_mangle)]
-pub extern "C" fn gate_field(image: &[u8; IMAGE], object: &[u8], tag: u8) -> FieldPlace
+pub fn gate_field(image: &[u8; IMAGE], object: &[u8], tag: u8) -> FieldPlace
     ensures is { place_given result ≡ field_place (load_of image.now) (length object.now) tag }
     ensures for_every_list { FieldPromise (load_of image.now) object.now tag (bytes_at object.now (place_given result)) }
 {
@@ -118,8 +106,7 @@ pub extern "C" fn gate_field(image: &[u8; IMAGE], object: &[u8], tag: u8) -> Fie
 }
 
 // Stamp: the first 46 bytes of out.
-#[unsafe(no_mangle)]
-pub extern "C" fn gate_stamp(image: &[u8; IMAGE], out: &mut [u8]) -> u8
+pub fn gate_stamp(image: &[u8; IMAGE], out: &mut [u8]) -> u8
     ensures number { result ≡ (stamp_answer (load_of image.now) (length out.old)).0 }
     ensures is { out.new ≡ stamp_buffer (load_of image.now) out.old }
     ensures for_every_list { StampPromise (load_of image.now) out.old out.new result (load_of image.now) }

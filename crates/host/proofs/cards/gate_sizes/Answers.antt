@@ -5,4 +5,4 @@ use Rattle.host.proofs.cards.gate_sizes.Goals as goal
 
 pub returns : goal.returns
 unfolding object_size stamp_size
-returns c = (refl, (refl, (refl, (refl, (refl, ((refl, refl), ((refl, refl), refl)))))))
+returns c = record { session = refl; object = refl; stamp = refl; command = refl; answer = refl; aid = (refl, refl); fascn = (refl, refl); line = refl }

@@ -8,5 +8,5 @@ use Rattle.host.proofs.image.card_in.Goals as goal
 pub returns : goal.returns
 unfolding segments_in cut_from
 returns c =
-    let fascn = array_in c.args.image.now 56 25 (omega (arith, c.part-arg-1.given)) c.part.ensures c.store.ensures in
+    let fascn = array_in c.args.image.now 56 25 (omega arith) c.part.ensures c.store.ensures in
     rw (fascn, c.step1_in-step1.ensures, c.four_at.ensures, c.part_at.ensures)

@@ -7,4 +7,4 @@ use Rattle.host.proofs.image.outcomes_in.Goals as goal
 
 pub returns : goal.returns
 unfolding segments_in cut_from
-returns c = array_in c.args.image.now 49 7 (omega (arith, c.part-arg-1.given)) c.part.ensures c.store.ensures
+returns c = array_in c.args.image.now 49 7 (omega arith) c.part.ensures c.store.ensures

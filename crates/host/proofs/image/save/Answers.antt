@@ -13,7 +13,7 @@ pub slice_bounds-store-end-8 : goal.slice_bounds-store-end-8
 slice_bounds-store-end-8 c = sym c.sized_fascn.ensures
 
 pub returns : goal.returns
-returns c = let whole : length c.args.image.now ≡ 161 = c.store-arg-1.given.0.1 in
+returns c = let whole : length c.args.image.now ≡ 161 = omega arith in
     let first = fill_first c.args.image.now (small_bytes c.args.s) (c.store.ensures ∙ rw (c.flag_byte.ensures, c.next_kind.ensures, c.next_byte.ensures)) refl (omega (arith, whole)) in
     let f1 = fill_on (high_first 4 c.args.s.opening.date) first c.put_four.ensures.is (length_high 4 c.args.s.opening.date) in
     let f2 = fill_on (high_first 4 c.args.s.card.expiry) f1 c.put_four-2.ensures.is (length_high 4 c.args.s.card.expiry) in
@@ -24,13 +24,13 @@ returns c = let whole : length c.args.image.now ≡ 161 = c.store-arg-1.given.0.
     let f7 = fill_store c.args.s.card.fascn f6 c.store-4.ensures c.sized_fascn.ensures (omega (arith, whole)) in
     let fits : Fits c.args.s =
     record {
-      c = c.put_four.ensures.fits;
-      c = c.put_four-2.ensures.fits;
-      c = c.put_eight.ensures.fits;
-      c = c.put_eight-2.ensures.fits;
-      c = c.sized_aid.ensures;
-      c = c.sized_outcomes.ensures;
-      c = c.sized_fascn.ensures;
+      date = c.put_four.ensures.fits;
+      expiry = c.put_four-2.ensures.fits;
+      aid_length = c.put_eight.ensures.fits;
+      filled = c.put_eight-2.ensures.fits;
+      aid = c.sized_aid.ensures;
+      outcomes = c.sized_outcomes.ensures;
+      fascn = c.sized_fascn.ensures;
       step1 = c.put_parts.ensures.fit;
       step2 = c.put_part.ensures.fits;
     } in

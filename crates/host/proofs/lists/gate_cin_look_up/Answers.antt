@@ -6,10 +6,8 @@ use Rattle.host.proofs.lists.gate_cin_look_up.Goals as goal
 
 pub returns : goal.returns
 returns c =
-    let beside = c.beside-beside.ensures ∙ ap (λ (x : ℕ × ℕ). x.1) c.look_up-answer.ensures in (
-      c.number-n.ensures ∙ ap (λ (x : ℕ × ℕ). x.0) c.look_up-answer.ensures,
-      (
-        rw (← beside) c.write_where.ensures,
-        rw (← beside) c.write_where-2.ensures,
-      ),
-    )
+    let beside = c.beside-beside.ensures ∙ ap (λ (x : ℕ × ℕ). x.1) c.look_up-answer.ensures in record {
+      number = c.number-n.ensures ∙ ap (λ (x : ℕ × ℕ). x.0) c.look_up-answer.ensures;
+      says = rw (← beside) c.write_where.ensures;
+      names = rw (← beside) c.write_where-2.ensures;
+    }

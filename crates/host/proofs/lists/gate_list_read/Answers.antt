@@ -6,13 +6,9 @@ use Rattle.host.proofs.lists.gate_list_read.Goals as goal
 
 pub returns : goal.returns
 returns c =
-    let beside = c.beside-beside.ensures ∙ ap (λ (x : ℕ × ℕ). x.1) c.read-answer.ensures.result_value in (
-      c.number-n.ensures ∙ ap (λ (x : ℕ × ℕ). x.0) c.read-answer.ensures.result_value,
-      (
-        rw (← beside) c.write_where.ensures,
-        (
-          rw (← beside) c.write_where-2.ensures,
-          c.read-answer.ensures.keys_after,
-        ),
-      ),
-    )
+    let beside = c.beside-beside.ensures ∙ ap (λ (x : ℕ × ℕ). x.1) c.read-answer.ensures.result_value in record {
+      number = c.number-n.ensures ∙ ap (λ (x : ℕ × ℕ). x.0) c.read-answer.ensures.result_value;
+      counts = rw (← beside) c.write_where.ensures;
+      names = rw (← beside) c.write_where-2.ensures;
+      is = c.read-answer.ensures.keys_after;
+    }

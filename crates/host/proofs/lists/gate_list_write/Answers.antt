@@ -6,10 +6,8 @@ use Rattle.host.proofs.lists.gate_list_write.Goals as goal
 
 pub returns : goal.returns
 returns c =
-    let beside = c.beside.ensures ∙ ap (λ (x : ℕ × ℕ). x.1) c.write-answer.ensures.result_value in (
-      c.number-n.ensures ∙ ap (λ (x : ℕ × ℕ). x.0) c.write-answer.ensures.result_value,
-      (
-        rw (← beside) c.write_where.ensures,
-        c.write-answer.ensures.out_after,
-      ),
-    )
+    let beside = c.beside.ensures ∙ ap (λ (x : ℕ × ℕ). x.1) c.write-answer.ensures.result_value in record {
+      number = c.number-n.ensures ∙ ap (λ (x : ℕ × ℕ). x.0) c.write-answer.ensures.result_value;
+      counts = rw (← beside) c.write_where.ensures;
+      is = c.write-answer.ensures.out_after;
+    }

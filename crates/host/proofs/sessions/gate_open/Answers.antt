@@ -7,5 +7,8 @@ use Rattle.host.proofs.sessions.gate_open.Goals as goal
 
 pub returns : goal.returns
 returns c =
-    let e = c.«open».ensures.0 in
-    (c.keep.ensures.number ∙ ap (λ (x : ℕ × Session). x.0) e, (rw (← e) c.keep.ensures.is.0, λ z object. rw (c.keep.ensures.is.1 z) (c.«open».ensures.1 (sym c.keep.ensures.number ∙ z) object)))
+    let e = c.«open».ensures.result_value in record {
+      number = c.keep.ensures.number ∙ ap (λ (x : ℕ × Session). x.0) e;
+      is = rw (← e) c.keep.ensures.is;
+      for_every_list = λ z object. rw (c.keep.ensures.again z) (c.«open».ensures.for_every_list (sym c.keep.ensures.number ∙ z) object);
+    }
