@@ -32,7 +32,9 @@ add-requires c =
 
 ends_short : (c : goal.After-add) → c.add.result ≤ out_size
 unfolding text_size stamp_size
-ends_short c = omega (arith, c.add.ensures.is, text_long c.end_text-stamp.result c.end_text-stamp.ensures.fits, c.end_text-stamp.ensures.fits, (omega (arith, c.add-n.ensures.is, text_long c.last-last.result.text c.last-last.ensures.fits, c.last-last.ensures.fits)))
+ends_short c =
+    let first : c.add-n.result ≤ text_size = omega (arith, c.add-n.ensures.is, text_long c.last-last.result.text c.last-last.ensures.fits, c.last-last.ensures.fits) in
+    omega (arith, first, c.add.ensures.is, text_long c.end_text-stamp.result c.end_text-stamp.ensures.fits, c.end_text-stamp.ensures.fits)
 
 pub returns : goal.returns
 unfolding ending_text text_size stamp_size

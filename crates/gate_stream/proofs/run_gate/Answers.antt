@@ -5,4 +5,4 @@ use Rattle.gate_stream.proofs.run_gate.Goals as goal
 
 pub returns : goal.returns
 unfolding object_size
-returns g c = rw c.with_reason.ensures c.run_whole-end.ensures
+returns g c = record { for_every_list = rw c.with_reason.ensures c.run_whole-end.ensures.for_every_list }

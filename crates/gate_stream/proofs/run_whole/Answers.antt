@@ -16,7 +16,7 @@ out_long g c =
     same ∙ c.requires.1
 
 pub returns-then-stops : goal.returns-then-stops
-returns-then-stops g c = ends_none _ _ _ (sym c.stops.ensures ∙ c.if-stops.true)
+returns-then-stops g c = record { for_every_list = ends_none _ _ _ (sym c.stops.ensures ∙ c.if-stops.true) }
 
 pub last_text-n-requires : goal.last_text-n-requires
 last_text-n-requires g c = out_long g (goal.at.last_text-n-requires g c).After-run_input-end
@@ -29,5 +29,7 @@ write_out-wrote-requires g c =
 pub returns : goal.returns
 returns g c =
     let begins = start_fresh c.start-state.result c.args.cards.now c.args.object.now c.args.line.now c.start-state.ensures in
-    ends_some _ _ _ _ (sym c.stops.ensures ∙ c.if-stops.false)
-    (ends_with c.args.object.now _ _ _ _ _ _ begins c.run_input-end.ensures (c.write_out-wrote.ensures ∙ c.last_text-n.ensures.is) c.last_text-n.ensures.prints)
+    record {
+      for_every_list = ends_some _ _ _ _ (sym c.stops.ensures ∙ c.if-stops.false)
+          (ends_with c.args.object.now _ _ _ _ _ _ begins c.run_input-end.ensures (c.write_out-wrote.ensures ∙ c.last_text-n.ensures.is) c.last_text-n.ensures.prints);
+    }
