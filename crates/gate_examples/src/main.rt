@@ -12,9 +12,13 @@ fn run_script(
     out: &mut [u8; gate_stream::OUT],
 ) -> io::Result<()> {
     println!(rt; "{name}")?;
-    let mut script = File::open(rt, name)?;
-    gate_stream::run_gate(&mut script, &mut rt.stdout(), &mut rt.stderr(), input, out);
-    Ok(())
+    match File::open(rt, name) {
+        Ok(mut script) => {
+            gate_stream::run_gate(&mut script, &mut rt.stdout(), &mut rt.stderr(), input, out);
+            Ok(())
+        }
+        Err(e) => eprintln!(rt; "{name}: {e}"),
+    }
 }
 
 fn main(rt: HostRuntime) -> io::Result<()> {
