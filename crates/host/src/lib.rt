@@ -1,5 +1,5 @@
-// The reader core for hosts in C and Rust (include/gate.h): a session is its image, a fixed number of bytes, and each exported call takes pointers, lengths and numbers, and
-// gives the papers' number.
+// The reader core for hosts in C and Rust (include/gate.h): a session is its image, a fixed number of bytes, and each call takes slices, arrays and numbers, and gives the papers'
+// number. Crate host_c exports the calls to C.
 #![tactic(auto)]
 
 pub mod cards;

@@ -1,5 +1,4 @@
 -- `host::image::card_in` meets its contract: each value at its place. Assumes nothing.
-use borrow.Author.Rules.{rules}
 use native.Mathlib.Omega.{arith}
 use Rattle.host.specs.Image.{segments_in, cut_from}
 use Rattle.host.proofs.ImageLaws.{array_in}

@@ -1,5 +1,4 @@
 -- `host::image::is_image` meets its contract: the bytes tested are those of the first segment. Assumes nothing.
-use borrow.Author.Rules.{rules}
 use lib.Dec.{lit<}
 use lib.Seq.{get_or-take}
 use Rattle.host.specs.Image.{segments_in, cut_from}

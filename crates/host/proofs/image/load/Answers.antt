@@ -1,5 +1,4 @@
 -- `host::image::load` meets its contract: the values of an image, or the dead session. Assumes nothing.
-use borrow.Author.Rules.{rules}
 use mathlib.Core.Path.{sym, ◌∙◌}
 use Rattle.host.specs.Image.{load_of}
 use Rattle.host.proofs.image.load.Goals as goal

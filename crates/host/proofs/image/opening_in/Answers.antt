@@ -1,5 +1,4 @@
 -- `host::image::opening_in` meets its contract: each value at its place. Assumes nothing.
-use borrow.Author.Rules.{rules}
 use native.Mathlib.Omega.{arith}
 use lib.Dec.{lit<}
 use lib.Seq.{get_or-take}

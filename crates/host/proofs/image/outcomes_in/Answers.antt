@@ -1,5 +1,4 @@
 -- `host::image::outcomes_in` meets its contract: the array is filled. Assumes nothing.
-use borrow.Author.Rules.{rules}
 use native.Mathlib.Omega.{arith}
 use Rattle.host.specs.Image.{segments_in, cut_from}
 use Rattle.host.proofs.ImageLaws.{array_in}

@@ -1,5 +1,4 @@
 -- `host::image::part_at` meets its contract: start and length. Assumes nothing.
-use borrow.Author.Rules.{rules}
 use lib.Dec.{lit≤}
 use lib.ListN.{drop}
 use lib.Seq.{take-take}

@@ -1,5 +1,4 @@
 -- `host::image::progress_in` meets its contract: each value at its place. Assumes nothing.
-use borrow.Author.Rules.{rules}
 use lib.Dec.{lit<}
 use lib.Seq.{get_or-take}
 use Rattle.host.specs.Image.{segments_in, cut_from}

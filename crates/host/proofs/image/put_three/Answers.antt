@@ -1,5 +1,4 @@
 -- `host::image::put_three` meets its contract: one part after another. Assumes nothing.
-use borrow.Author.Rules.{rules}
 use mathlib.Core.List.{◌++◌}
 use native.Mathlib.Omega.{arith}
 use lib.ListN.{length-append}

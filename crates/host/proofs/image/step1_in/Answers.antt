@@ -1,5 +1,4 @@
 -- `host::image::step1_in` meets its contract: nine parts, one after another. Assumes nothing.
-use borrow.Author.Rules.{rules}
 use Rattle.host.specs.Image.{segments_in, cut_from}
 use Rattle.host.proofs.image.step1_in.Goals as goal
 

@@ -1,5 +1,4 @@
 -- `host::lists::gate_cin_look_up` meets its contract: the answer, its number and what stands beside it. Assumes nothing.
-use borrow.Author.Rules.{rules}
 use mathlib.Core.Path.{ap, ◌∙◌}
 use Prim.Native.Nat.{ℕ}
 use Rattle.host.proofs.lists.gate_cin_look_up.Goals as goal

@@ -1,5 +1,4 @@
 -- `host::number::eight_at` meets its contract: the lower four bytes and the higher. Assumes nothing.
-use borrow.Author.Rules.{rules}
 use mathlib.Core.Path.{◌∙◌}
 use native.Mathlib.Nat.{add_comm}
 use Rattle.host.proofs.NumberLaws.{from_halves}

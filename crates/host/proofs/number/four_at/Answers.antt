@@ -1,5 +1,4 @@
 -- `host::number::four_at` meets its contract: the bytes as a sum. Assumes nothing.
-use borrow.Author.Rules.{rules}
 use Rattle.host.proofs.NumberLaws.{four_sum}
 use Rattle.host.proofs.number.four_at.Goals as goal
 

@@ -2,7 +2,6 @@
 use borrow.Author.Rules.{rules}
 use mathlib.Core.Path.{◌≡◌}
 use Rattle.host.specs.Image.{load_of}
-use native.Mathlib.Omega.{arith}
 use Rattle.session.specs.Operation.{given, answer_of, answer_buffer}
 use Rattle.session.proofs.CallPromiseLaws.{answer_promise}
 use Rattle.host.proofs.BoundaryLaws.{answer_same, kept}

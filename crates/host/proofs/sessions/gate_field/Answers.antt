@@ -1,5 +1,4 @@
 -- `host::sessions::gate_field` meets its contract: the place in the session of the image. Assumes nothing.
-use borrow.Author.Rules.{rules}
 use mathlib.Core.Path.{◌≡◌, refl}
 use lib.ListN.{length}
 use Rattle.host.specs.Image.{load_of}

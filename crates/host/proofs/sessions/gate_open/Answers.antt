@@ -1,5 +1,4 @@
 -- `host::sessions::gate_open` meets its contract: the session of an accepted opening is saved. Assumes nothing.
-use borrow.Author.Rules.{rules}
 use mathlib.Core.Path.{sym, ap, ◌∙◌}
 use Prim.Native.Nat.{ℕ}
 use Rattle.session.specs.declared.state.Session.{Session}

@@ -1,5 +1,4 @@
 -- `host::sessions::gate_preview` meets its contract: the preview of the session of the image. Assumes nothing.
-use borrow.Author.Rules.{rules}
 use mathlib.Core.Path.{ap, ◌∙◌}
 use Prim.Native.Nat.{ℕ}
 use Rattle.host.specs.Image.{load_of}

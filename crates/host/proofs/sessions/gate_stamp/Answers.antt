@@ -1,5 +1,4 @@
 -- `host::sessions::gate_stamp` meets its contract: the stamp of the session of the image. Assumes nothing.
-use borrow.Author.Rules.{rules}
 use mathlib.Core.Path.{◌≡◌, ap, ◌∙◌}
 use Prim.Native.Nat.{ℕ}
 use lib.ListN.{length}

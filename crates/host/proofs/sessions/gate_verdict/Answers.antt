@@ -1,5 +1,4 @@
 -- `host::sessions::gate_verdict` meets its contract: the verdict is taken on the session of the image. Assumes nothing.
-use borrow.Author.Rules.{rules}
 use mathlib.Core.Path.{◌≡◌}
 use Rattle.host.specs.Image.{load_of}
 use Rattle.session.specs.Operation.{given, verdict_of}

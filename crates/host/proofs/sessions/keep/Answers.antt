@@ -1,5 +1,4 @@
 -- `host::sessions::keep` meets its contract: the session is saved, or the image stays. Assumes nothing.
-use borrow.Author.Rules.{rules}
 use mathlib.Core.Path.{◌≡◌, sym, ◌∙◌}
 use borrow.Author.Tests.{eq-eqb, ne_eqb}
 use Rattle.session.specs.Operation.{reply_number}
