@@ -1,6 +1,6 @@
 /* A sample host in C: it plays recorded card answers to the gate reader core, makes every call of gate.h and prints what each gives (crates/host_examples/stdout is that text, and
  * tools/run_hosts compares the two). In a real host the answers come from the antenna, and the verdicts from the cryptography and the finger matcher. Built at the root of the
- * repository, with the libhost.a that `rt staticlib host` writes: gcc -std=c11 -O2 -Iinclude hosts/host.c libhost.a */
+ * repository, with the libhost.a that tools/run_hosts writes: gcc -std=c11 -O2 -Iinclude hosts/host.c libhost.a */
 #include <inttypes.h>
 #include <stdio.h>
 #include <string.h>

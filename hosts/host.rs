@@ -1,6 +1,6 @@
 //! A sample host in Rust: it plays recorded card answers to the gate reader core, makes every call of include/gate.h and prints what each gives (crates/host_examples/stdout is that
 //! text, and tools/run_hosts compares the two). In a real host the answers come from the antenna, and the verdicts from the cryptography and the finger matcher. Built at the root of
-//! the repository, with DIR the directory of the libhost.a that `rt staticlib host` writes: rustc -O --edition 2021 hosts/host.rs -L DIR -l static=host
+//! the repository, with DIR the directory of the libhost.a that tools/run_hosts writes: rustc -O --edition 2021 hosts/host.rs -L DIR -l static=host
 
 /// The calls of gate.h as safe functions; gate.h says what each does. Nothing in here belongs to the sample.
 mod gate {

@@ -1,4 +1,4 @@
-/* The gate reader core for C: documents 01 and 02 over a session of GATE_SESSION_SIZE bytes. Link libhost.a, which `rt staticlib host` writes. docs/HOSTS.md says in which order to call.
+/* The gate reader core for C: documents 01 and 02 over a session of GATE_SESSION_SIZE bytes. Link libhost.a, which tools/run_hosts writes. docs/HOSTS.md says in which order to call.
  *
  * A call gives the papers' number: 0 where it is accepted, else the refusal, the first that fits in the order shown here. A refused call leaves the session and every byte that it was lent as
  * they were. A number that is given through a pointer (*count, *line, *listed) is written only beside the number that it is named with, so set it before the call.
@@ -10,7 +10,7 @@
  * aligned for it; a pointer beside a length has so many elements, and one without has as many as its type says. And for the stamp to be right: one object buffer a session, the same from its
  * opening on, which only gate_answer writes. Another buffer there makes the reading another one, and touches nothing beside it. Every other value of an argument is met with its number.
  *
- * What the core never does: it takes nothing from the heap, has no variables of its own, keeps no pointer after a call, waits for nothing, and calls nothing but memcpy. So it may be called
+ * What the core never does: it takes nothing from the heap, has no variables of its own, keeps no pointer after a call, waits for nothing, and calls nothing but memcpy, memmove and memset. So it may be called
  * from several threads at once, where no two calls share what one of them writes.
  *
  * x86-64, System V calling convention. */
@@ -42,7 +42,7 @@ extern "C" {
 #define GATE_DIGITS 32 /* its digits, one a byte */
 #define GATE_LINE_SIZE 32 /* a line of a cancelled card list */
 
-/* The stack that a call may take: measured 2,664 bytes at most (gate_answer; hosts/stack.c), not proved. */
+/* The stack that a call may take: measured 2,184 bytes at most (gate_answer; hosts/stack.c), not proved. */
 #define GATE_STACK_USE 4096
 
 /* Verdict kinds, what stamp byte 1 says, and the tags of gate_field. */
