@@ -1,8 +1,5 @@
 -- `host_examples::send_pieces` is safe and ends: each turn sends one byte or more of what is left. Assumes nothing.
-use Prim.Native.Nat.{◌-◌, ◌≤◌}
 use native.Mathlib.Omega.{arith}
-use borrow.Author.Rules.{rules}
-use lib.ListN.{length}
 use Rattle.host_examples.proofs.send_pieces.Goals as goal
 
 pub loop-at-smaller : goal.loop-at-smaller

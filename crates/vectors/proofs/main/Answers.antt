@@ -1,7 +1,6 @@
 -- `vectors::main` is safe and ends: the two buffers have the lengths that they are lent with. Assumes nothing.
 use mathlib.Core.Path.{sym}
 use Prim.Native.Nat.{ℕ}
-use borrow.Author.Rules.{rules}
 use lib.ListN.{length-replicate}
 use Rattle.vectors.proofs.main.Goals as goal
 

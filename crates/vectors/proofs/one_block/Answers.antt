@@ -16,5 +16,5 @@ use_block-done-requires c = c.read_more-read.ensures.inside.1
 
 pub returns : goal.returns
 returns c =
-    let same : length c.use_block-done.new.block ≡ length c.read_more-read.new.rt = search rules in
+    let same : length c.use_block-done.new.block ≡ length c.read_more-read.new.block = search rules in
     omega (arith, same, c.use_block-done.ensures.held.1, c.read_more-read.ensures.inside.1)

@@ -1,12 +1,7 @@
 -- `vectors::run` is safe, ends and keeps its bounds: what is held lies within the block. Assumes nothing.
 use mathlib.Core.Path.{◌≡◌}
 use Prim.Native.Nat.{◌≤◌}
-use native.Mathlib.Omega.{arith}
-use borrow.Author.Tests.{ltb-true}
-use borrow.Author.Rules.{rules}
-use lib.Dec.{ltb}
 use lib.ListN.{length}
-use Rattle.common.proofs.TestLaws.{and_left}
 use Rattle.vectors.proofs.run.Given as goal
 
 abbrev pub invariant-loop-turns : goal.invariant-loop-turns

@@ -1,5 +1,4 @@
 -- `vectors::answer::answer` meets its contract: by the call. Assumes nothing.
-use borrow.Author.Rules.{rules}
 use Rattle.vectors.specs.Answer.{answer_text}
 use Rattle.vectors.proofs.answer.answer.Goals as goal
 

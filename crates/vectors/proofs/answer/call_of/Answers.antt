@@ -3,7 +3,6 @@ use mathlib.Core.Path.{◌≡◌, refl, ap, ◌∙◌}
 use mathlib.Core.Bool.{cond}
 use mathlib.Core.List.{List, [], ◌∷◌}
 use Prim.Native.Nat.{ℕ}
-use borrow.Author.Rules.{rules}
 use Rattle.common.specs.Lists.{same_bytes}
 use Rattle.vectors.specs.declared.answer.VectorCall.{VectorCall}
 use Rattle.vectors.specs.declared.answer.VectorCall.TheVariants.{Unknown}

@@ -1,6 +1,5 @@
 -- `vectors::answer::row` meets its contract: the test is the definition's. Assumes nothing.
 use mathlib.Core.Path.{sym, ◌∙◌}
-use borrow.Author.Rules.{rules}
 use Rattle.vectors.proofs.answer.row.Goals as goal
 
 pub returns-then-same : goal.returns-then-same

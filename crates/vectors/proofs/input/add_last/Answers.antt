@@ -1,5 +1,4 @@
 -- `vectors::input::add_last` meets its contract: one text or none. Assumes nothing.
-use borrow.Author.Rules.{rules}
 use borrow.Author.Tests.{eq-eqb, ne_eqb}
 use Rattle.append.proofs.AppendLaws.{when, unless}
 use Rattle.vectors.specs.Input.{last_line_text}

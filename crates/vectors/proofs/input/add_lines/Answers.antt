@@ -1,12 +1,8 @@
 -- `vectors::input::add_lines` meets its contract: a turn adds a line. Assumes nothing.
-use mathlib.Core.Path.{◌≡◌, refl}
-use mathlib.Core.List.{[]}
-use Prim.Native.Nat.{◌+◌, ◌-◌, ◌≤◌, zero-le}
+use mathlib.Core.Path.{refl}
+use Prim.Native.Nat.{zero-le}
 use native.Mathlib.Omega.{arith}
 use borrow.Author.Rules.{rules}
-use lib.ListN.{length, take, drop}
-use Rattle.common.specs.Bytes.{index_of}
-use Rattle.append.specs.Append.{Added}
 use Rattle.append.proofs.AppendLaws.{◌then◌, same_text, stays}
 use Rattle.vectors.specs.Input.{lines_text, rest_of}
 use Rattle.vectors.proofs.InputLaws.{lines_more, lines_all}

@@ -1,10 +1,10 @@
 -- `vectors::input::keep` meets its contract: a turn moves a byte. Assumes nothing.
 use mathlib.Core.Path.{refl, ap, ◌∙◌}
 use mathlib.Core.List.{List}
-use Prim.Native.Nat.{ℕ, ◌+◌, ◌-◌}
+use Prim.Native.Nat.{ℕ, ◌+◌}
 use borrow.Author.Rules.{rules}
 use lib.ListN.{get_or}
-use Rattle.common.proofs.LoopLaws.{WrittenSoFar, writing_none, writing_front, writing_end}
+use Rattle.common.proofs.LoopLaws.{writing_none, writing_front, writing_end}
 use Rattle.vectors.proofs.InputLaws.{written_past, moved_is}
 use Rattle.vectors.proofs.input.keep.Goals as goal
 

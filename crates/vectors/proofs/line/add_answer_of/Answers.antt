@@ -1,7 +1,6 @@
 -- `vectors::line::add_answer_of` meets its contract: the parts of the line. Assumes nothing.
 use mathlib.Core.Path.{ap, ◌∙◌}
 use Prim.Native.Nat.{ℕ, ◌+◌}
-use borrow.Author.Rules.{rules}
 use lib.ListN.{drop}
 use Rattle.vectors.specs.Line.{after_place, first_word, after_word, answer_of_line}
 use Rattle.vectors.proofs.line.add_answer_of.Goals as goal

@@ -1,5 +1,4 @@
 -- `vectors::line::add_line` meets its contract: four texts. Assumes nothing.
-use borrow.Author.Rules.{rules}
 use Rattle.append.proofs.AppendLaws.{◌then◌}
 use Rattle.vectors.specs.Line.{line_text}
 use Rattle.vectors.proofs.line.add_line.Goals as goal

@@ -3,8 +3,7 @@ use mathlib.Core.Path.{◌≡◌, ap, ap₂, ◌∙◌}
 use mathlib.Core.List.{List}
 use Prim.Native.Nat.{ℕ, ◌/◌}
 use native.Mathlib.Omega.{arith}
-use borrow.Author.Rules.{rules}
-use lib.ListN.{length, take}
+use lib.ListN.{length, take, replicate, length-replicate}
 use Rattle.common.specs.Lists.{written}
 use Rattle.text.specs.Hex.{bytes_in, byte_at}
 use Rattle.text.proofs.HexLaws.{front_bytes}
@@ -14,7 +13,8 @@ use Rattle.vectors.proofs.line.add_spelled.Goals as goal
 
 pub returns : goal.returns
 returns c =
-    let half : c.read-n.result ≡ length c.args.digits.now / 2 = omega (arith, c.large-buffer.ensures) in
+    let b : List ℕ = replicate 65536 0 in
+    let half : c.read-n.result ≡ length c.args.digits.now / 2 = omega (arith, length-replicate {0} {A = ℕ} 65536 0) in
     let spelled : take c.read-n.result c.read-n.new.out ≡ bytes_in c.args.digits.now =
-    ap (λ (l : List ℕ). take c.read-n.result l) c.read-n.ensures.stores ∙ ap (λ (i : ℕ). take i (written c.large-buffer.result 0 i (byte_at c.args.digits.now))) half ∙ front_bytes c.args.digits.now c.large-buffer.result in
+    ap (λ (l : List ℕ). take c.read-n.result l) c.read-n.ensures.stores ∙ ap (λ (i : ℕ). take i (written b 0 i (byte_at c.args.digits.now))) half ∙ front_bytes c.args.digits.now b in
     same_text (ap₂ answer_text c.call_of-call.ensures spelled) c.answer.ensures

@@ -1,5 +1,4 @@
 -- `vectors::refusal::add_cause` meets its contract: two texts. Assumes nothing.
-use borrow.Author.Rules.{rules}
 use Rattle.append.proofs.AppendLaws.{◌then◌}
 use Rattle.vectors.specs.RefusalText.{cause_text}
 use Rattle.vectors.proofs.refusal.add_cause.Goals as goal

@@ -1,5 +1,4 @@
 -- `vectors::refusal::add_no_vector` meets its contract: one text. Assumes nothing.
-use borrow.Author.Rules.{rules}
 use Rattle.vectors.specs.RefusalText.{no_vector}
 use Rattle.vectors.proofs.refusal.add_no_vector.Goals as goal
 

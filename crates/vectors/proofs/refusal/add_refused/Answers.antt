@@ -1,5 +1,4 @@
 -- `vectors::refusal::add_refused` meets its contract: two texts. Assumes nothing.
-use borrow.Author.Rules.{rules}
 use Rattle.append.proofs.AppendLaws.{◌then◌}
 use Rattle.vectors.specs.RefusalText.{refusal_text}
 use Rattle.vectors.proofs.refusal.add_refused.Goals as goal

@@ -1,5 +1,4 @@
 -- `vectors::answer::calls::add_buffer` meets its contract: five texts. Assumes nothing.
-use borrow.Author.Rules.{rules}
 use Rattle.append.proofs.AppendLaws.{◌then◌}
 use Rattle.vectors.specs.CallsText.{buffer_text}
 use Rattle.vectors.proofs.answer.calls.add_buffer.Goals as goal

@@ -1,6 +1,5 @@
 -- `vectors::answer::calls::add_calls` meets its contract: the calls are made from the dead session on. Assumes nothing.
 use mathlib.Core.Path.{ap}
-use borrow.Author.Rules.{rules}
 use lib.ListN.{replicate}
 use Rattle.session.specs.Tables.{object_size}
 use Rattle.session.specs.declared.state.Session.{Session}

@@ -1,5 +1,4 @@
 -- `vectors::answer::calls::add_counted` meets its contract: seven texts. Assumes nothing.
-use borrow.Author.Rules.{rules}
 use Rattle.append.proofs.AppendLaws.{◌then◌}
 use Rattle.vectors.specs.CallsText.{counted_text}
 use Rattle.vectors.proofs.answer.calls.add_counted.Goals as goal

@@ -1,5 +1,4 @@
 -- `vectors::answer::calls::add_numbered` meets its contract: three texts. Assumes nothing.
-use borrow.Author.Rules.{rules}
 use Rattle.append.proofs.AppendLaws.{◌then◌}
 use Rattle.vectors.specs.CallsText.{numbered_text}
 use Rattle.vectors.proofs.answer.calls.add_numbered.Goals as goal

@@ -1,5 +1,4 @@
 -- `vectors::answer::calls::add_part` meets its contract: three texts. Assumes nothing.
-use borrow.Author.Rules.{rules}
 use Rattle.append.proofs.AppendLaws.{◌then◌}
 use Rattle.vectors.specs.CallsText.{field_text}
 use Rattle.vectors.proofs.answer.calls.add_part.Goals as goal

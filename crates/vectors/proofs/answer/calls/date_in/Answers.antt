@@ -1,6 +1,7 @@
 -- `vectors::answer::calls::date_in` meets its contract: a turn adds a byte. Assumes nothing.
-use mathlib.Core.Path.{◌≡◌, ap, ◌∙◌}
-use Prim.Native.Nat.{ℕ, ◌+◌, ◌-◌, ◌*◌, ◌^◌, ◌≤◌, ◌<◌}
+use mathlib.Core.Path.{◌≡◌, refl, ap, ◌∙◌}
+use mathlib.Core.List.{List}
+use Prim.Native.Nat.{ℕ, ◌+◌, ◌*◌, ◌^◌, ◌<◌}
 use native.Mathlib.Omega.{arith}
 use borrow.Author.Rules.{rules}
 use lib.Dec.{lit<}
@@ -9,13 +10,20 @@ use Rattle.common.specs.Lists.{number}
 use Rattle.common.proofs.NumberLaws.{number_more, number_room}
 use Rattle.vectors.specs.CallsText.{date_in}
 use Rattle.vectors.proofs.answer.calls.date_in.Goals as goal
-use Rattle.vectors.proofs.answer.calls.date_in.Goals.{At-loop-j}
+
+-- the number with byte 1 + j has 32 bits
+room : (a : List ℕ) (j : ℕ) {n : ℕ} → ((i : ℕ) → get_or a i 0 < 256) → j < 4 → n ≡ number 256 j (λ i. get_or a (1 + i) 0) → n * 256 + get_or a (1 + j) 0 < 256 ^ 4
+room a j f h e = number_room 256 4 (λ i. get_or a (1 + i) 0) (lit< tt) (λ i. f (1 + i)) j h e
+
+pub loop-j-init : goal.loop-j-init
+unfolding number
+loop-j-init c = (omega arith, refl)
 
 pub overflow_mul-date : goal.overflow_mul-date
-overflow_mul-date c = omega (arith, room (goal.at.overflow_mul-date c).At-loop-j (omega arith))
+overflow_mul-date c = omega (arith, room c.args.a.now c.loop-j.j (λ i. (c.type_inv.a i).fits) (omega arith) c.loop-j.invariant.1)
 
 pub overflow_add-date : goal.overflow_add-date
-overflow_add-date c = rw c.byte.ensures (omega (arith, room (goal.at.overflow_add-date c).At-loop-j (omega arith)))
+overflow_add-date c = rw c.byte.ensures (omega (arith, room c.args.a.now c.loop-j.j (λ i. (c.type_inv.a i).fits) (omega arith) c.loop-j.invariant.1))
 
 pub loop-j-preserved : goal.loop-j-preserved
 loop-j-preserved c =

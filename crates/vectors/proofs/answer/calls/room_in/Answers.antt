@@ -1,5 +1,4 @@
 -- `vectors::answer::calls::room_in` meets its contract: by the call. Assumes nothing.
-use borrow.Author.Rules.{rules}
 use Rattle.vectors.proofs.answer.calls.room_in.Goals as goal
 
 pub returns-in-Command : goal.returns-in-Command

@@ -1,7 +1,6 @@
 -- `vectors::answer::calls::run_answer` meets its contract: the call's number, session and object buffer. Assumes nothing.
 use mathlib.Core.Path.{ap, ◌∙◌}
 use Prim.Native.Nat.{ℕ}
-use borrow.Author.Rules.{rules}
 use Rattle.session.specs.declared.state.Session.{Session}
 use Rattle.append.proofs.AppendLaws.{same_text}
 use Rattle.vectors.specs.CallsText.{answer_word, numbered_text}

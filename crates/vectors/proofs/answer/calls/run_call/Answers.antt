@@ -1,6 +1,5 @@
 -- `vectors::answer::calls::run_call` meets its contract: by the call. Assumes nothing.
 use mathlib.Core.Path.{refl, ◌∙◌}
-use borrow.Author.Rules.{rules}
 use Rattle.session.specs.Operation.{stamp_answer}
 use Rattle.vectors.specs.CallsText.{direct_text, after_call, buffer_after}
 use Rattle.vectors.proofs.CallsLaws.{same_host, left_by_answer}
@@ -8,32 +7,32 @@ use Rattle.vectors.proofs.answer.calls.run_call.Goals as goal
 
 pub returns-in-Open : goal.returns-in-Open
 unfolding direct_text after_call buffer_after
-returns-in-Open c = rw c.in-Open.is (c.run_open.ensures.text, (same_host c.run_open.ensures.session refl, refl))
+returns-in-Open c = rw c.in-Open.is (record { text = c.run_open.ensures.text; host = same_host c.run_open.ensures.session refl; holds = refl })
 
 pub returns-in-Command : goal.returns-in-Command
 unfolding direct_text after_call buffer_after
-returns-in-Command c = rw c.in-Command.is (c.run_command.ensures.text, (same_host c.run_command.ensures.session refl, c.run_command.ensures.holds))
+returns-in-Command c = rw c.in-Command.is (record { text = c.run_command.ensures.text; host = same_host c.run_command.ensures.session refl; holds = c.run_command.ensures.holds })
 
 pub returns-in-Answer : goal.returns-in-Answer
 unfolding direct_text after_call buffer_after
-returns-in-Answer c = rw c.in-Answer.is (c.run_answer.ensures.text, (same_host c.run_answer.ensures.session (c.run_answer.ensures.holds ∙ left_by_answer _ _ _), refl))
+returns-in-Answer c = rw c.in-Answer.is (record { text = c.run_answer.ensures.text; host = same_host c.run_answer.ensures.session (c.run_answer.ensures.holds ∙ left_by_answer _ _ _); holds = refl })
 
 pub returns-in-Verdict : goal.returns-in-Verdict
 unfolding direct_text after_call buffer_after
-returns-in-Verdict c = rw c.in-Verdict.is (c.run_verdict.ensures.text, (same_host c.run_verdict.ensures.session refl, refl))
+returns-in-Verdict c = rw c.in-Verdict.is (record { text = c.run_verdict.ensures.text; host = same_host c.run_verdict.ensures.session refl; holds = refl })
 
 pub returns-in-Preview : goal.returns-in-Preview
 unfolding direct_text after_call buffer_after
-returns-in-Preview c = rw c.in-Preview.is (c.run_preview-end.ensures.text, (refl, c.run_preview-end.ensures.holds))
+returns-in-Preview c = rw c.in-Preview.is (record { text = c.run_preview-end.ensures.text; host = refl; holds = c.run_preview-end.ensures.holds })
 
 pub returns-in-Stamp : goal.returns-in-Stamp
 unfolding direct_text after_call buffer_after stamp_answer
-returns-in-Stamp c = rw c.in-Stamp.is (c.run_stamp-end.ensures.text, (refl, c.run_stamp-end.ensures.holds))
+returns-in-Stamp c = rw c.in-Stamp.is (record { text = c.run_stamp-end.ensures.text; host = refl; holds = c.run_stamp-end.ensures.holds })
 
 pub returns-in-Field : goal.returns-in-Field
 unfolding direct_text after_call buffer_after
-returns-in-Field c = rw c.in-Field.is (c.run_field-end.ensures, (refl, refl))
+returns-in-Field c = rw c.in-Field.is (record { text = c.run_field-end.ensures; host = refl; holds = refl })
 
 pub returns-in-None : goal.returns-in-None
 unfolding direct_text after_call buffer_after
-returns-in-None c = rw c.in-None.is (c.add-end.ensures, (refl, refl))
+returns-in-None c = rw c.in-None.is (record { text = c.add-end.ensures; host = refl; holds = refl })

@@ -1,22 +1,20 @@
 -- `vectors::answer::calls::run_calls` meets its contract: a turn makes a call. Assumes nothing.
 use mathlib.Core.Path.{◌≡◌, ap, ◌∙◌}
-use Prim.Native.Nat.{◌+◌, ◌-◌, ◌≤◌}
 use native.Mathlib.Omega.{arith}
 use borrow.Author.Rules.{rules}
 use lib.ListN.{length, length-drop}
 use Rattle.append.proofs.AppendLaws.{adding_end}
 use Rattle.vectors.specs.CallsText.{call_texts, host_at}
-use Rattle.vectors.proofs.CallsLaws.{host, CallsSoFar, no_call, one_call, all_calls_lem}
+use Rattle.vectors.proofs.CallsLaws.{no_call, one_call, all_calls_lem}
 use Rattle.vectors.proofs.answer.calls.run_calls.Goals as goal
 
 pub overflow_add-from : goal.overflow_add-from
 overflow_add-from c =
     let size = ap length c.after-left.ensures ∙ length-drop c.loop-i.from c.args.s.now in
-    let fact : c.loop-i.from + c.least-from.result ≤ length c.args.s.now = omega (arith, c.loop-i.invariant.1.1.inside, c.least-from.ensures.inside.0, size) in
-    omega (arith, fact, c.well_formed_lem.1.1.1.1.0)
+    omega (arith, c.loop-i.invariant.1.1.inside, c.least-from.ensures.inside.0, size)
 
-pub overflow_step-i : goal.overflow_step-i
-overflow_step-i c = omega (arith, c.loop-i-test.true, c.loop-i.invariant.0, c.well_formed_lem.1.1.1.1.0)
+pub loop-i-init : goal.loop-i-init
+loop-i-init c = (search rules, (search rules, no_call _ _ c.add-end.ensures))
 
 pub loop-i-preserved : goal.loop-i-preserved
 loop-i-preserved c =

@@ -2,7 +2,6 @@
 use mathlib.Core.Path.{◌≡◌, ap, ◌∙◌}
 use mathlib.Core.List.{List}
 use Prim.Native.Nat.{ℕ}
-use borrow.Author.Rules.{rules}
 use Rattle.session.specs.declared.state.Session.{Session}
 use Rattle.append.proofs.AppendLaws.{same_text}
 use Rattle.vectors.specs.CallsText.{counted_text}

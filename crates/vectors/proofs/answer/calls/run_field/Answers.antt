@@ -1,6 +1,5 @@
 -- `vectors::answer::calls::run_field` meets its contract: the bytes of the part. Assumes nothing.
 use mathlib.Core.Path.{ap}
-use borrow.Author.Rules.{rules}
 use Rattle.append.proofs.AppendLaws.{same_text}
 use Rattle.vectors.specs.CallsText.{field_text}
 use Rattle.vectors.proofs.answer.calls.run_field.Goals as goal

@@ -2,7 +2,6 @@
 use mathlib.Core.Path.{◌≡◌, ap, ◌∙◌}
 use mathlib.Core.List.{List}
 use Prim.Native.Nat.{ℕ}
-use borrow.Author.Rules.{rules}
 use Rattle.append.proofs.AppendLaws.{same_text}
 use Rattle.vectors.specs.CallsText.{preview_word, buffer_text}
 use Rattle.vectors.proofs.answer.calls.run_preview.Goals as goal
@@ -13,4 +12,8 @@ by_both {x = x} p q = ap (λ (k : ℕ). buffer_text preview_word k x) p ∙ ap (
 
 pub returns : goal.returns
 returns c =
-    rw (← c.byte.ensures, ← c.byte-2.ensures, ← c.after.ensures) (same_text (by_both c.number.ensures c.preview-reply.ensures.as_two_calls) c.add_buffer.ensures, ap (λ (z : ℕ × List ℕ). z.1) c.preview-reply.ensures.as_two_calls)
+    rw (← c.byte.ensures, ← c.byte-2.ensures, ← c.after.ensures)
+    (record {
+      text = same_text (by_both c.number.ensures c.preview-reply.ensures.as_two_calls) c.add_buffer.ensures;
+      holds = ap (λ (z : ℕ × List ℕ). z.1) c.preview-reply.ensures.as_two_calls;
+    })

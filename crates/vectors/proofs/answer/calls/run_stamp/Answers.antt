@@ -1,7 +1,6 @@
 -- `vectors::answer::calls::run_stamp` meets its contract: the call's number and buffer. Assumes nothing.
 use mathlib.Core.Path.{ap, ap₂, ◌∙◌}
 use Prim.Native.Nat.{ℕ}
-use borrow.Author.Rules.{rules}
 use Rattle.session.specs.Operation.{stamp_answer}
 use Rattle.session.specs.declared.state.Session.{Session}
 use Rattle.append.proofs.AppendLaws.{same_text}

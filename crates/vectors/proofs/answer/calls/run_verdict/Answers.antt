@@ -1,7 +1,6 @@
 -- `vectors::answer::calls::run_verdict` meets its contract: the call's number and session. Assumes nothing.
 use mathlib.Core.Path.{◌≡◌, ap, ◌∙◌}
 use Prim.Native.Nat.{ℕ}
-use borrow.Author.Rules.{rules}
 use Rattle.session.specs.Operation.{given}
 use Rattle.session.specs.declared.state.Session.{Session}
 use Rattle.append.proofs.AppendLaws.{same_text}

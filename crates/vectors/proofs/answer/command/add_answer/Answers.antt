@@ -1,5 +1,4 @@
 -- `vectors::answer::command::add_answer` meets its contract: by the answer's case. Assumes nothing.
-use borrow.Author.Rules.{rules}
 use Rattle.vectors.specs.CommandText.{command_text}
 use Rattle.vectors.proofs.answer.command.add_answer.Goals as goal
 

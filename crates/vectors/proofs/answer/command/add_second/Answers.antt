@@ -1,5 +1,4 @@
 -- `vectors::answer::command::add_second` meets its contract: two texts. Assumes nothing.
-use borrow.Author.Rules.{rules}
 use Rattle.append.proofs.AppendLaws.{◌then◌}
 use Rattle.vectors.proofs.answer.command.add_second.Goals as goal
 

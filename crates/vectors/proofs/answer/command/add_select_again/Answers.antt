@@ -1,5 +1,4 @@
 -- `vectors::answer::command::add_select_again` meets its contract: the first byte, and those after it. Assumes nothing.
-use borrow.Author.Rules.{rules}
 use Rattle.vectors.specs.CommandText.{select_again_text}
 use Rattle.vectors.proofs.answer.command.add_select_again.Goals as goal
 

@@ -1,5 +1,4 @@
 -- `vectors::answer::command::add_status` meets its contract: by the status's case. Assumes nothing.
-use borrow.Author.Rules.{rules}
 use Rattle.vectors.specs.CommandText.{text_of_status}
 use Rattle.vectors.proofs.answer.command.add_status.Goals as goal
 

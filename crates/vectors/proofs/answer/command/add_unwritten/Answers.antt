@@ -1,5 +1,4 @@
 -- `vectors::answer::command::add_unwritten` meets its contract: three texts. Assumes nothing.
-use borrow.Author.Rules.{rules}
 use Rattle.append.proofs.AppendLaws.{◌then◌}
 use Rattle.vectors.specs.CommandText.{unwritten_text}
 use Rattle.vectors.proofs.answer.command.add_unwritten.Goals as goal

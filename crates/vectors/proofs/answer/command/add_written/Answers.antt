@@ -1,5 +1,4 @@
 -- `vectors::answer::command::add_written` meets its contract: five texts. Assumes nothing.
-use borrow.Author.Rules.{rules}
 use Rattle.append.proofs.AppendLaws.{◌then◌}
 use Rattle.vectors.specs.CommandText.{written_text}
 use Rattle.vectors.proofs.answer.command.add_written.Goals as goal

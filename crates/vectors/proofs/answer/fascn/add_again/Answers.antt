@@ -1,5 +1,4 @@
 -- `vectors::answer::fascn::add_again` meets its contract: two texts. Assumes nothing.
-use borrow.Author.Rules.{rules}
 use Rattle.append.proofs.AppendLaws.{◌then◌}
 use Rattle.vectors.specs.FascnText.{again_text}
 use Rattle.vectors.proofs.answer.fascn.add_again.Goals as goal

@@ -1,6 +1,5 @@
 -- `vectors::answer::fascn::add_character` meets its contract: five bits. Assumes nothing.
 use native.Mathlib.Nat.{add-zero}
-use borrow.Author.Rules.{rules}
 use Rattle.common.specs.Lists.{list_of}
 use Rattle.append.proofs.AppendLaws.{same_text}
 use Rattle.vectors.specs.FascnText.{character_text}

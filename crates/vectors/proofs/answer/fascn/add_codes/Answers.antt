@@ -1,5 +1,4 @@
 -- `vectors::answer::fascn::add_codes` meets its contract: four texts. Assumes nothing.
-use borrow.Author.Rules.{rules}
 use Rattle.append.proofs.AppendLaws.{◌then◌}
 use Rattle.vectors.specs.FascnText.{codes_text}
 use Rattle.vectors.proofs.answer.fascn.add_codes.Goals as goal

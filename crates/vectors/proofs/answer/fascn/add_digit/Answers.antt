@@ -1,6 +1,5 @@
 -- `vectors::answer::fascn::add_digit` meets its contract: one text or the other. Assumes nothing.
 use mathlib.Core.Path.{sym, ◌∙◌}
-use borrow.Author.Rules.{rules}
 use Rattle.append.proofs.AppendLaws.{when, unless}
 use Rattle.vectors.specs.FascnText.{digit_text}
 use Rattle.vectors.proofs.answer.fascn.add_digit.Goals as goal

@@ -1,10 +1,8 @@
 -- `vectors::answer::fascn::add_digits` meets its contract: a turn adds a digit. Assumes nothing.
-use Prim.Native.Nat.{◌-◌}
-use borrow.Author.Rules.{rules}
 use lib.ListN.{get_or}
-use Rattle.append.proofs.AppendLaws.{AddedSoFar, adding_none, adding_more, adding_end}
+use Rattle.append.proofs.AppendLaws.{AddedSoFar}
 use Rattle.vectors.specs.FascnText.{digit_text}
 use Rattle.vectors.proofs.answer.fascn.add_digits.Given as goal
 
 abbrev pub invariant-loop-k : goal.invariant-loop-k
-invariant-loop-k l = AddedSoFar l.initial.out l.initial.end 32 (λ j. digit_text j (get_or l.d j 0)) l.k l.out l.k-end
+invariant-loop-k l = AddedSoFar l.initial.out l.initial.end 32 (λ j. digit_text j (get_or l.d j 0)) l.k l.out l.end

@@ -1,8 +1,6 @@
 -- `vectors::answer::fascn::add_pack` meets its contract: the bytes, or the number of a refusal. Assumes nothing.
 use mathlib.Core.Path.{ap, ◌∙◌}
-use borrow.Author.Rules.{rules}
 use borrow.Author.Tests.{eq-eqb, ne_eqb}
-use Rattle.common.specs.Lists.{number}
 use Rattle.card.specs.Fascn.{pack_of}
 use Rattle.append.proofs.AppendLaws.{◌then◌, when, unless}
 use Rattle.vectors.specs.FascnText.{pack_text}

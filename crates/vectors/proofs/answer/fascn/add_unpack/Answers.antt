@@ -1,7 +1,5 @@
 -- `vectors::answer::fascn::add_unpack` meets its contract: the digits, or the number of a refusal. Assumes nothing.
-use borrow.Author.Rules.{rules}
 use borrow.Author.Tests.{eq-eqb, ne_eqb}
-use Rattle.common.specs.Lists.{number}
 use Rattle.append.proofs.AppendLaws.{when, unless}
 use Rattle.vectors.specs.FascnText.{unpack_text}
 use Rattle.vectors.proofs.answer.fascn.add_unpack.Goals as goal

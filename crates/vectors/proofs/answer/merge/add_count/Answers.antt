@@ -1,5 +1,4 @@
 -- `vectors::answer::merge::add_count` meets its contract: the count, or the number of a refusal. Assumes nothing.
-use borrow.Author.Rules.{rules}
 use borrow.Author.Tests.{eq-eqb, ne_eqb}
 use Rattle.append.proofs.AppendLaws.{◌then◌, when, unless}
 use Rattle.vectors.specs.MergeText.{count_text}

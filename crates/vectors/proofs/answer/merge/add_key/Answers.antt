@@ -1,5 +1,4 @@
 -- `vectors::answer::merge::add_key` meets its contract: two texts. Assumes nothing.
-use borrow.Author.Rules.{rules}
 use Rattle.append.proofs.AppendLaws.{◌then◌}
 use Rattle.vectors.proofs.answer.merge.add_key.Goals as goal
 

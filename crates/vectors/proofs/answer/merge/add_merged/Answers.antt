@@ -1,5 +1,4 @@
 -- `vectors::answer::merge::add_merged` meets its contract: three texts. Assumes nothing.
-use borrow.Author.Rules.{rules}
 use Rattle.append.proofs.AppendLaws.{◌then◌}
 use Rattle.vectors.specs.MergeText.{merged_text}
 use Rattle.vectors.proofs.answer.merge.add_merged.Goals as goal

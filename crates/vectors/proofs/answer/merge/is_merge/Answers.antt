@@ -1,5 +1,4 @@
 -- `vectors::answer::merge::is_merge` meets its contract: the tests are the definition's. Assumes nothing.
-use borrow.Author.Rules.{rules}
 use Rattle.vectors.specs.MergeText.{is_merge}
 use Rattle.vectors.proofs.answer.merge.is_merge.Goals as goal
 

@@ -1,13 +1,8 @@
 -- `vectors::answer::merge::key_in` meets its contract: a turn adds a byte. Assumes nothing.
-use mathlib.Core.Path.{◌≡◌, ap, ◌∙◌}
-use Prim.Native.Nat.{ℕ, ◌+◌, ◌-◌, ◌*◌, ◌^◌, ◌≤◌, ◌<◌}
-use native.Mathlib.Omega.{arith}
-use borrow.Author.Rules.{rules}
-use lib.Dec.{lit<}
+use mathlib.Core.Path.{◌≡◌}
+use Prim.Native.Nat.{◌-◌, ◌≤◌}
 use lib.ListN.{get_or}
 use Rattle.common.specs.Lists.{number}
-use Rattle.common.proofs.NumberLaws.{number_more, number_room}
-use Rattle.vectors.specs.MergeText.{key_in}
 use Rattle.vectors.proofs.answer.merge.key_in.Given as goal
 
 abbrev pub invariant-loop-j : goal.invariant-loop-j

@@ -1,9 +1,7 @@
 -- `vectors::answer::merge::keys_in` meets its contract: a turn stores key i. Assumes nothing.
 use mathlib.Core.Path.{refl, ap, ◌∙◌}
-use Prim.Native.Nat.{◌-◌, ◌*◌}
 use borrow.Author.Rules.{rules}
-use lib.ListN.{drop}
-use Rattle.common.proofs.LoopLaws.{WrittenSoFar, writing_none, writing_front, writing_whole}
+use Rattle.common.proofs.LoopLaws.{writing_none, writing_front, writing_whole}
 use Rattle.vectors.specs.MergeText.{key_in, keys_in}
 use Rattle.vectors.proofs.answer.merge.keys_in.Goals as goal
 

@@ -1,10 +1,8 @@
 -- `vectors::answer::merge::keys_in` meets its contract: a turn stores key i. Assumes nothing.
-use mathlib.Core.Path.{refl, ap, ◌∙◌}
 use Prim.Native.Nat.{◌-◌, ◌*◌}
-use borrow.Author.Rules.{rules}
 use lib.ListN.{drop}
-use Rattle.common.proofs.LoopLaws.{WrittenSoFar, writing_none, writing_front, writing_whole}
-use Rattle.vectors.specs.MergeText.{key_in, keys_in}
+use Rattle.common.proofs.LoopLaws.{WrittenSoFar}
+use Rattle.vectors.specs.MergeText.{key_in}
 use Rattle.vectors.proofs.answer.merge.keys_in.Given as goal
 
 abbrev pub invariant-loop-i : goal.invariant-loop-i

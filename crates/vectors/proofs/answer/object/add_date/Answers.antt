@@ -1,5 +1,4 @@
 -- `vectors::answer::object::add_date` meets its contract: by the date's case. Assumes nothing.
-use borrow.Author.Rules.{rules}
 use Rattle.vectors.specs.ObjectText.{date_text}
 use Rattle.vectors.proofs.answer.object.add_date.Goals as goal
 

@@ -1,5 +1,4 @@
 -- `vectors::answer::object::add_field` meets its contract: three texts. Assumes nothing.
-use borrow.Author.Rules.{rules}
 use Rattle.append.proofs.AppendLaws.{◌then◌}
 use Rattle.vectors.specs.ObjectText.{field_text}
 use Rattle.vectors.proofs.answer.object.add_field.Goals as goal

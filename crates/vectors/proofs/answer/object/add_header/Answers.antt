@@ -1,5 +1,4 @@
 -- `vectors::answer::object::add_header` meets its contract: by the header's case. Assumes nothing.
-use borrow.Author.Rules.{rules}
 use Rattle.vectors.specs.ObjectText.{text_of_header}
 use Rattle.vectors.proofs.answer.object.add_header.Goals as goal
 

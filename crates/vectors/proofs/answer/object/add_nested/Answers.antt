@@ -1,5 +1,4 @@
 -- `vectors::answer::object::add_nested` meets its contract: one text or the other. Assumes nothing.
-use borrow.Author.Rules.{rules}
 use Rattle.append.proofs.AppendLaws.{when, unless}
 use Rattle.vectors.specs.ObjectText.{nested_text}
 use Rattle.vectors.proofs.answer.object.add_nested.Goals as goal

@@ -1,7 +1,5 @@
 -- `vectors::answer::object::add_object` meets its contract: the fields, or the cause. Assumes nothing.
-use borrow.Author.Rules.{rules}
 use borrow.Author.Tests.{eq-eqb, ne_eqb}
-use Rattle.common.specs.Lists.{number}
 use Rattle.append.proofs.AppendLaws.{when, unless}
 use Rattle.vectors.specs.ObjectText.{object_text}
 use Rattle.vectors.proofs.answer.object.add_object.Goals as goal

@@ -1,5 +1,4 @@
 -- `vectors::answer::object::add_part` meets its contract: one text or the other. Assumes nothing.
-use borrow.Author.Rules.{rules}
 use borrow.Author.Tests.{eq-eqb, ne_eqb}
 use Rattle.append.proofs.AppendLaws.{when, unless}
 use Rattle.vectors.specs.ObjectText.{part_text}

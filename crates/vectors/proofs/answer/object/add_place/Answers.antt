@@ -1,5 +1,4 @@
 -- `vectors::answer::object::add_place` meets its contract: four texts. Assumes nothing.
-use borrow.Author.Rules.{rules}
 use Rattle.append.proofs.AppendLaws.{◌then◌}
 use Rattle.vectors.specs.ObjectText.{place_text}
 use Rattle.vectors.proofs.answer.object.add_place.Goals as goal

@@ -1,5 +1,4 @@
 -- `vectors::answer::object::add_real_or_not` meets its contract: one text or the other. Assumes nothing.
-use borrow.Author.Rules.{rules}
 use Rattle.append.proofs.AppendLaws.{when, unless}
 use Rattle.vectors.specs.ObjectText.{text_of_real}
 use Rattle.vectors.proofs.answer.object.add_real_or_not.Goals as goal

@@ -1,5 +1,4 @@
 -- `vectors::answer::object::add_shown` meets its contract: by the kind. Assumes nothing.
-use borrow.Author.Rules.{rules}
 use Rattle.card.specs.Object.{rows_of}
 use Rattle.vectors.specs.ObjectText.{shown_tags}
 use Rattle.vectors.proofs.answer.object.add_shown.Goals as goal

@@ -1,7 +1,5 @@
 -- `vectors::answer::object::add_template` meets its contract: one text or the other. Assumes nothing.
-use borrow.Author.Rules.{rules}
 use borrow.Author.Tests.{eq-eqb, ne_eqb}
-use Rattle.common.specs.Lists.{number}
 use Rattle.append.proofs.AppendLaws.{when, unless}
 use Rattle.vectors.specs.ObjectText.{template_text}
 use Rattle.vectors.proofs.answer.object.add_template.Goals as goal

@@ -1,5 +1,4 @@
 -- `vectors::answer::object::add_whole` meets its contract: four texts. Assumes nothing.
-use borrow.Author.Rules.{rules}
 use Rattle.append.proofs.AppendLaws.{◌then◌}
 use Rattle.vectors.specs.ObjectText.{text_of_header}
 use Rattle.vectors.proofs.answer.object.add_whole.Goals as goal

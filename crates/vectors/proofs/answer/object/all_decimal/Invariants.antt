@@ -1,9 +1,7 @@
 -- `vectors::answer::object::all_decimal` meets its contract: a turn adds its test. Assumes nothing.
-use mathlib.Core.Path.{◌≡◌, refl}
-use Prim.Native.Nat.{◌-◌}
-use borrow.Author.Rules.{rules}
+use mathlib.Core.Path.{◌≡◌}
 use lib.ListN.{length}
-use Rattle.common.proofs.LoopLaws.{TestedSoFar, testing_none, testing_more, testing_end}
+use Rattle.common.proofs.LoopLaws.{TestedSoFar}
 use Rattle.vectors.specs.ObjectText.{decimal_pair}
 use Rattle.vectors.proofs.answer.object.all_decimal.Given as goal
 

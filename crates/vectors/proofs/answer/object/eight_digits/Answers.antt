@@ -1,6 +1,5 @@
 -- `vectors::answer::object::eight_digits` meets its contract: two digits after two digits. Assumes nothing.
 use native.Mathlib.Nat.{zero-add}
-use borrow.Author.Rules.{rules}
 use Rattle.common.specs.Lists.{number}
 use Rattle.vectors.specs.ObjectText.{eight_digits}
 use Rattle.vectors.proofs.answer.object.eight_digits.Goals as goal

@@ -1,5 +1,4 @@
 -- `vectors::answer::visual::add_looked_up` meets its contract: the line is cut at its first 00. Assumes nothing.
-use borrow.Author.Rules.{rules}
 use Rattle.vectors.specs.VisualText.{looked_up_text}
 use Rattle.vectors.proofs.answer.visual.add_looked_up.Goals as goal
 

@@ -1,5 +1,4 @@
 -- `vectors::answer::visual::add_lookup` meets its contract: by the answer's case. Assumes nothing.
-use borrow.Author.Rules.{rules}
 use Rattle.vectors.specs.VisualText.{text_of_lookup}
 use Rattle.vectors.proofs.answer.visual.add_lookup.Goals as goal
 

@@ -1,5 +1,4 @@
 -- `vectors::answer::visual::add_malformed` meets its contract: three texts. Assumes nothing.
-use borrow.Author.Rules.{rules}
 use Rattle.append.proofs.AppendLaws.{◌then◌}
 use Rattle.vectors.specs.VisualText.{malformed_text}
 use Rattle.vectors.proofs.answer.visual.add_malformed.Goals as goal
