@@ -69,7 +69,7 @@ def new_name(old, known):
     for k, p in enumerate(parts[1:], 1):
         rest = "_".join(parts[k:])
         out += ("-" if out in known and (p in known or rest in known) else "_") + p
-    return out.replace("get_d", "get_or").replace("′", "'")
+    return out.replace("get_d-", "get_or-").replace("′", "'")
 
 
 def table(root):

@@ -11,7 +11,7 @@ use lib.ListN.{length, get_or, set, length-set, length-append}
 use lib.Seq.{set-append_seam, get_or-set_other}
 use Rattle.common.specs.Lists.{over_front, all, same_bytes}
 use Rattle.card.specs.Object.{object_tag}
-use Rattle.card.specs.Command.{with_last, select_beside, select_bytes, get_orata_bytes, get_response_bytes, command_written, command_into, aid_least, aid_most, aid_refused, select_of, get_orata_of, get_response_of, status_of}
+use Rattle.card.specs.Command.{with_last, select_beside, select_bytes, get_data_bytes, get_response_bytes, command_written, command_into, aid_least, aid_most, aid_refused, select_of, get_data_of, get_response_of, status_of}
 use Rattle.card.specs.declared.command.Status.TheVariants.{Other}
 use Rattle.card.specs.declared.object.Kind.{Kind}
 use Rattle.card.specs.declared.object.Kind.TheVariants.{Signed, Unsigned, Fingers, Picture}
@@ -32,9 +32,9 @@ tag_length Fingers = refl
 tag_length Picture = refl
 
 -- GET DATA is eleven bytes
-pub get_orata_length : (k : Kind) → length (get_orata_bytes k) ≡ 11
-unfolding get_orata_bytes
-get_orata_length k = rw (length-append, tag_length)
+pub get_data_length : (k : Kind) → length (get_data_bytes k) ≡ 11
+unfolding get_data_bytes
+get_data_length k = rw (length-append, tag_length)
 
 -- GET RESPONSE is five bytes
 pub get_response_length : (x : ℕ) → length (get_response_bytes x) ≡ 5
@@ -74,18 +74,18 @@ pub select_last : (aid : List ℕ) (last : ℕ) → with_last (select_bytes aid)
 unfolding select_bytes
 select_last aid last = with_last_lem ((0x00 ∷ 0xA4 ∷ 0x04 ∷ 0x00 ∷ []) ++ (length aid ∷ []) ++ aid) 0x00 last
 
-pub get_orata_last : (k : Kind) (last : ℕ) → with_last (get_orata_bytes k) last ≡ (0x00 ∷ 0xCB ∷ 0x3F ∷ 0xFF ∷ 0x05 ∷ 0x5C ∷ 0x03 ∷ []) ++ object_tag k ++ (last ∷ [])
-unfolding get_orata_bytes
-get_orata_last k last = with_last_lem ((0x00 ∷ 0xCB ∷ 0x3F ∷ 0xFF ∷ 0x05 ∷ 0x5C ∷ 0x03 ∷ []) ++ object_tag k) 0x00 last
+pub get_data_last : (k : Kind) (last : ℕ) → with_last (get_data_bytes k) last ≡ (0x00 ∷ 0xCB ∷ 0x3F ∷ 0xFF ∷ 0x05 ∷ 0x5C ∷ 0x03 ∷ []) ++ object_tag k ++ (last ∷ [])
+unfolding get_data_bytes
+get_data_last k last = with_last_lem ((0x00 ∷ 0xCB ∷ 0x3F ∷ 0xFF ∷ 0x05 ∷ 0x5C ∷ 0x03 ∷ []) ++ object_tag k) 0x00 last
 
 -- with 00 they are as they were
 pub select_first : (aid : List ℕ) → with_last (select_bytes aid) 0x00 ≡ select_bytes aid
 unfolding select_bytes
 select_first aid = select_last aid 0x00
 
-pub get_orata_first : (k : Kind) → with_last (get_orata_bytes k) 0x00 ≡ get_orata_bytes k
-unfolding get_orata_bytes
-get_orata_first k = get_orata_last k 0x00
+pub get_data_first : (k : Kind) → with_last (get_data_bytes k) 0x00 ≡ get_data_bytes k
+unfolding get_data_bytes
+get_data_first k = get_data_last k 0x00
 
 -- GET RESPONSE with its last byte replaced is GET RESPONSE with that byte
 pub get_response_last : (second last : ℕ) → with_last (get_response_bytes second) last ≡ get_response_bytes last
@@ -132,9 +132,9 @@ unfolding select_of
 select_refused aid out last h = refused_same _ (with_last (select_bytes aid) last) out h
 
 -- the same of GET DATA
-pub get_orata_refused : (k : Kind) (last : ℕ) (out : List ℕ) → ((get_orata_of k last out).0.0 ≡ 0 → ⊥) → (get_orata_of k last out).1 ≡ out
-unfolding get_orata_of
-get_orata_refused k last out h = refused_same _ (with_last (get_orata_bytes k) last) out h
+pub get_data_refused : (k : Kind) (last : ℕ) (out : List ℕ) → ((get_data_of k last out).0.0 ≡ 0 → ⊥) → (get_data_of k last out).1 ≡ out
+unfolding get_data_of
+get_data_refused k last out h = refused_same _ (with_last (get_data_bytes k) last) out h
 
 -- the same of GET RESPONSE
 pub get_response_refused : (x : ℕ) (out : List ℕ) → ((get_response_of x out).0.0 ≡ 0 → ⊥) → (get_response_of x out).1 ≡ out

@@ -18,8 +18,8 @@ unfoldable pub select_bytes : List ℕ → List ℕ
 select_bytes aid = (0x00 ∷ 0xA4 ∷ 0x04 ∷ 0x00 ∷ []) ++ (length aid ∷ []) ++ aid ++ (0x00 ∷ [])
 
 -- GET DATA: 00 CB 3F FF 05 5C 03, three tag bytes, 00.
-unfoldable pub get_orata_bytes : Kind → List ℕ
-get_orata_bytes k = (0x00 ∷ 0xCB ∷ 0x3F ∷ 0xFF ∷ 0x05 ∷ 0x5C ∷ 0x03 ∷ []) ++ object_tag k ++ (0x00 ∷ [])
+unfoldable pub get_data_bytes : Kind → List ℕ
+get_data_bytes k = (0x00 ∷ 0xCB ∷ 0x3F ∷ 0xFF ∷ 0x05 ∷ 0x5C ∷ 0x03 ∷ []) ++ object_tag k ++ (0x00 ∷ [])
 
 -- GET RESPONSE: 00 C0 00 00, then the second status byte of the answer just taken.
 unfoldable pub get_response_bytes : ℕ → List ℕ
@@ -70,8 +70,8 @@ select_of aid last out =
     let c = with_last (select_bytes aid) last in
     command_written (refusal_of ((3, aid_refused aid) ∷ (6, too_short out c) ∷ [])) c out
 
-unfoldable pub get_orata_of : Kind → ℕ → List ℕ → (ℕ × ℕ) × List ℕ
-get_orata_of k last out = command_into (with_last (get_orata_bytes k) last) out
+unfoldable pub get_data_of : Kind → ℕ → List ℕ → (ℕ × ℕ) × List ℕ
+get_data_of k last out = command_into (with_last (get_data_bytes k) last) out
 
 unfoldable pub get_response_of : ℕ → List ℕ → (ℕ × ℕ) × List ℕ
 get_response_of second out = command_into (get_response_bytes second) out

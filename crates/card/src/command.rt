@@ -1,7 +1,7 @@
 // Commands and status words (document 01, section Commands; document 02, request 1): SELECT, GET DATA and GET RESPONSE written to the front of a lent buffer.
 ghost use Rattle.std.specs.Prelude.{◌≡◌};
 ghost use Rattle.card.specs.Object.{object_tag};
-ghost use Rattle.card.specs.Command.{good_aid, command_number, command_answer, select_of, get_orata_of, get_response_of, status_of};
+ghost use Rattle.card.specs.Command.{good_aid, command_number, command_answer, select_of, get_data_of, get_response_of, status_of};
 
 use crate::object::Kind;
 use common::slice;
@@ -89,7 +89,7 @@ const GET_RESPONSE_BYTES: usize = 5;
 
 // GET DATA: 00 CB 3F FF 05 5C 03, three tag bytes, last byte.
 pub fn get_data(kind: Kind, last: u8, out: &mut [u8]) -> CommandAnswer
-    ensures { (command_answer result, out.new) ≡ get_orata_of kind last out.old }
+    ensures { (command_answer result, out.new) ≡ get_data_of kind last out.old }
 {
     if out.len() < GET_DATA_BYTES {
         return CommandAnswer::ShortBuffer;

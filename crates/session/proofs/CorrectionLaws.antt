@@ -10,7 +10,7 @@ use lib.Dec.{eqb}
 use lib.ListN.{length, get_or, length-append}
 use lib.Seq.{take-append_seam, drop-append_seam}
 use Rattle.common.specs.Lists.{all, same_bytes}
-use Rattle.card.specs.Command.{select_bytes, get_orata_bytes, get_response_bytes, with_last, status_of}
+use Rattle.card.specs.Command.{select_bytes, get_data_bytes, get_response_bytes, with_last, status_of}
 use Rattle.card.specs.declared.command.Status.{Status}
 use Rattle.card.specs.declared.command.Status.TheVariants.{Done, More, Again, Other}
 use Rattle.card.proofs.CommandLaws.{before_last, status_other}
@@ -103,10 +103,10 @@ after_answer f o ts = list_last ts (begins f o) Done (λ _. refl)
 
 -- "the command was GET RESPONSE" (rule 2), said of its bytes: the second one is C0, with whatever last byte it is sent
 pub response_bytes : (mode : ℕ) (aid : List ℕ) (step : ℕ) (c : NextCommand) → is_response c ≡ eqb (get_or (command_bytes mode aid step c) 1 0) 0xC0
-unfolding command_bytes select_bytes get_orata_bytes get_response_bytes
+unfolding command_bytes select_bytes get_data_bytes get_response_bytes
 response_bytes mode aid step NextCommand.of_step = by (eqb step 0)
   where
-    by : (b : Bool) → false ≡ eqb (get_or (cond b (select_bytes aid) (get_orata_bytes (kind_at mode step))) 1 0) 0xC0
+    by : (b : Bool) → false ≡ eqb (get_or (cond b (select_bytes aid) (get_data_bytes (kind_at mode step))) 1 0) 0xC0
     by true = refl
     by false = refl
 response_bytes mode aid step (NextCommand.get_response second) = one second

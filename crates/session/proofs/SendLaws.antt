@@ -10,8 +10,8 @@ use lib.Dec.{eqb}
 use lib.ListN.{length, take}
 use lib.Seq.{length-take-le}
 use Rattle.common.specs.Lists.{over_front}
-use Rattle.card.specs.Command.{aid_least, aid_most, aid_refused, command_most, too_short, select_bytes, get_orata_bytes, with_last, command_written, command_into, select_of, get_orata_of, get_response_of, command_number, command_answer}
-use Rattle.card.proofs.CommandLaws.{select_length, get_orata_length, get_response_length, length_last, aid_most_lem, select_first, get_orata_first, get_response_last}
+use Rattle.card.specs.Command.{aid_least, aid_most, aid_refused, command_most, too_short, select_bytes, get_data_bytes, with_last, command_written, command_into, select_of, get_data_of, get_response_of, command_number, command_answer}
+use Rattle.card.proofs.CommandLaws.{select_length, get_data_length, get_response_length, length_last, aid_most_lem, select_first, get_data_first, get_response_last}
 use Rattle.card.specs.declared.object.Kind.{Kind}
 use Rattle.card.specs.declared.command.CommandAnswer.{CommandAnswer}
 use Rattle.card.specs.declared.command.CommandAnswer.TheVariants.{Written, WrongAid, ShortBuffer}
@@ -30,9 +30,9 @@ pub command_length : (mode : ℕ) (aid : List ℕ) (step : ℕ) (c : NextCommand
 unfolding command_bytes
 command_length mode aid step NextCommand.of_step = by (eqb step 0)
   where
-    by : (b : Bool) → (4 < length (cond b (select_bytes aid) (get_orata_bytes (kind_at mode step)))) × (aid_refused aid ≡ false → length (cond b (select_bytes aid) (get_orata_bytes (kind_at mode step))) ≤ command_most)
+    by : (b : Bool) → (4 < length (cond b (select_bytes aid) (get_data_bytes (kind_at mode step)))) × (aid_refused aid ≡ false → length (cond b (select_bytes aid) (get_data_bytes (kind_at mode step))) ≤ command_most)
     by true = (omega (arith, select_length aid), λ e. omega (arith, select_length aid, aid_most_lem aid e))
-    by false = (omega (arith, get_orata_length (kind_at mode step)), λ e. omega (arith, get_orata_length (kind_at mode step)))
+    by false = (omega (arith, get_data_length (kind_at mode step)), λ e. omega (arith, get_data_length (kind_at mode step)))
 command_length mode aid step (NextCommand.get_response second) = (omega (arith, get_response_length second), λ e. omega (arith, get_response_length second))
 command_length mode aid step (NextCommand.again c last) = rw length_last (command_length mode aid step c)
 
@@ -50,10 +50,10 @@ unfolding select_of initial_in command_bytes
 select_written s last out r l f = rw (f, aid_fits s r l)
 
 -- or GET DATA
-pub get_orata_written : (s : Session) (last : ℕ) (out : List ℕ) → (s.progress.step ≡ 0 → ⊥)
-    → get_orata_of (kind_at s.opening.mode s.progress.step) last out ≡ command_into (with_last (initial_in s) last) out
-unfolding get_orata_of initial_in command_bytes
-get_orata_written s last out f = rw (ne_eqb _ _ f)
+pub get_data_written : (s : Session) (last : ℕ) (out : List ℕ) → (s.progress.step ≡ 0 → ⊥)
+    → get_data_of (kind_at s.opening.mode s.progress.step) last out ≡ command_into (with_last (initial_in s) last) out
+unfolding get_data_of initial_in command_bytes
+get_data_written s last out f = rw (ne_eqb _ _ f)
 
 -- its last byte is 00
 initial_first : (s : Session) → with_last (initial_in s) 0x00 ≡ initial_in s
@@ -66,9 +66,9 @@ initial_first s = go (eqb s.progress.step 0)
     kind : Kind
     kind = kind_at s.opening.mode s.progress.step
 
-    go : (b : Bool) → with_last (cond b (select_bytes aid) (get_orata_bytes kind)) 0x00 ≡ cond b (select_bytes aid) (get_orata_bytes kind)
+    go : (b : Bool) → with_last (cond b (select_bytes aid) (get_data_bytes kind)) 0x00 ≡ cond b (select_bytes aid) (get_data_bytes kind)
     go true = select_first aid
-    go false = get_orata_first kind
+    go false = get_data_first kind
 
 -- the next command is the step's, GET RESPONSE, or one of the two again
 pub initial_next : (s : Session) (out : List ℕ) → s.progress.next ≡ Initial → command_into (with_last (initial_in s) 0x00) out ≡ command_into (command_in s) out

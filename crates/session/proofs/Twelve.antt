@@ -10,7 +10,7 @@ use Rattle.common.specs.Lists.{list_of, slice_of, all, number, xor_of, same_byte
 use Rattle.common.specs.Decimal.{is_digit_at, spelled}
 use Rattle.card.specs.Date.{days_in, real_date, good_date, date_of}
 use Rattle.card.specs.Template.{tlvs_from, tlvs_of, every, whole_to, lengths_of, just_one, good_value, good_from, template_of}
-use Rattle.card.specs.Command.{get_response_bytes, select_bytes, get_orata_bytes, with_last, status_of}
+use Rattle.card.specs.Command.{get_response_bytes, select_bytes, get_data_bytes, with_last, status_of}
 use Rattle.card.specs.Object.{part, empty, rows_of, field_from, row_field, fields_from, fields_answer, object_from, object_of, part_in, bytes_at, field_value, object_tag}
 use Rattle.card.specs.Tlv.{tag_size, tag_number, length_size, length_of, ending_of, after_tag, header_of, only_from, only_of}
 use Rattle.card.specs.declared.object.Kind.TheVariants.{Unsigned}
@@ -152,5 +152,5 @@ table =
     ∷ []
 
 pub twelve : map (λ row. row.0) table ≡ map (λ row. row.1) table
-unfolding example older older_field with_parts opened outcomes_in_range parts_inside ranged_values values_in_range in_range tables.base_of field_in next_after opening template answered_by tables.step_of_tag tables.object_size tables.capacity tables.needs tables.check_served tables.needed_at tables.needed_outcomes tables.verdict_outcome tables.expiry_outcome tables.list_outcome tables.lowest_from tables.cause_of tables.all_passed tables.standing_of tables.command_bytes tables.rule_cause tables.object_cause tables.joined_cause tables.stamp_layout command_refused answer_refused good_end judged answer_taken verdict_refused read finding stamp_of number same_bytes is_digit_at spelled good_date date_of tlvs_from tlvs_of every whole_to lengths_of just_one good_value good_from template_of get_response_bytes select_bytes get_orata_bytes with_last status_of bytes_at field_value object_tag char_bit sent_bit bytes_of values_from values_of pack_refusal pack_of key_of table answer real object place part_in real_date days_in object_of object_from fields_answer fields_from row_field field_from rows_of only_of only_from header_of after_tag ending_of tag_size tag_number length_size length_of unpack_of unpack_refusal bit_at value_at odd_at values_in digits_from marks_from decimal_at check_value all list_of slice_of xor_of
+unfolding example older older_field with_parts opened outcomes_in_range parts_inside ranged_values values_in_range in_range tables.base_of field_in next_after opening template answered_by tables.step_of_tag tables.object_size tables.capacity tables.needs tables.check_served tables.needed_at tables.needed_outcomes tables.verdict_outcome tables.expiry_outcome tables.list_outcome tables.lowest_from tables.cause_of tables.all_passed tables.standing_of tables.command_bytes tables.rule_cause tables.object_cause tables.joined_cause tables.stamp_layout command_refused answer_refused good_end judged answer_taken verdict_refused read finding stamp_of number same_bytes is_digit_at spelled good_date date_of tlvs_from tlvs_of every whole_to lengths_of just_one good_value good_from template_of get_response_bytes select_bytes get_data_bytes with_last status_of bytes_at field_value object_tag char_bit sent_bit bytes_of values_from values_of pack_refusal pack_of key_of table answer real object place part_in real_date days_in object_of object_from fields_answer fields_from row_field field_from rows_of only_of only_from header_of after_tag ending_of tag_size tag_number length_size length_of unpack_of unpack_refusal bit_at value_at odd_at values_in digits_from marks_from decimal_at check_value all list_of slice_of xor_of
 twelve = refl

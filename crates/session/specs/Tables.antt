@@ -8,7 +8,7 @@ use Rattle.card.specs.Fascn.{fascn_bytes, unpack_of, key_of}
 use Rattle.card.specs.Template.{template_of}
 use Rattle.card.specs.Object.{buffer_length_tag, fascn_tag, agency_tag, organization_tag, duns_tag, guid_tag, expiry_tag, signature_tag, biometric_tag, malformed_object, object_of, field_value}
 use Rattle.card.specs.Date.{ill_formed_date, date_of}
-use Rattle.card.specs.Command.{select_bytes, get_orata_bytes, get_response_bytes, with_last}
+use Rattle.card.specs.Command.{select_bytes, get_data_bytes, get_response_bytes, with_last}
 use Rattle.card.specs.declared.object.Kind.{Kind}
 use Rattle.card.specs.declared.object.Kind.TheVariants.{Signed, Unsigned, Fingers, Picture}
 use Rattle.card.specs.declared.command.Status.{Status}
@@ -224,7 +224,7 @@ pub data NextCommand : Type 0 where
 
 -- Its bytes, in steps 0 to 2; at step 3 there is nothing to send (refusal 5).
 unfoldable pub command_bytes : ℕ → List ℕ → ℕ → NextCommand → List ℕ
-command_bytes mode aid step NextCommand.of_step = cond (eqb step 0) (select_bytes aid) (get_orata_bytes (kind_at mode step))
+command_bytes mode aid step NextCommand.of_step = cond (eqb step 0) (select_bytes aid) (get_data_bytes (kind_at mode step))
 command_bytes mode aid step (NextCommand.get_response second) = get_response_bytes second
 command_bytes mode aid step (NextCommand.again command last) = with_last (command_bytes mode aid step command) last
 

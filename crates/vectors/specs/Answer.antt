@@ -6,7 +6,7 @@ use Rattle.card.specs.declared.object.Kind.TheVariants as kinds
 use Rattle.vectors.specs.RefusalText.{no_vector}
 use Rattle.vectors.specs.FascnText.{unpack_text, pack_text}
 use Rattle.vectors.specs.ObjectText.{header_text, template_text, object_text, date_text, real_text}
-use Rattle.vectors.specs.CommandText.{select_text, select_again_text, get_orata_text, get_response_text, status_text}
+use Rattle.vectors.specs.CommandText.{select_text, select_again_text, get_data_text, get_response_text, status_text}
 use Rattle.vectors.specs.VisualText.{looked_up_text}
 use Rattle.vectors.specs.MergeText.{merge_text}
 use Rattle.vectors.specs.CallsText.{calls_text}
@@ -90,7 +90,7 @@ answer_text Real s = real_text s
 answer_text (Object kind) s = object_text kind s
 answer_text (Select room) s = select_text 0x00 room s
 answer_text (SelectAgain room) s = select_again_text room s
-answer_text (GetData kind room) s = get_orata_text kind room s
+answer_text (GetData kind room) s = get_data_text kind room s
 answer_text (GetResponse room) s = get_response_text room s
 answer_text Status s = status_text s
 answer_text Cin s = looked_up_text s

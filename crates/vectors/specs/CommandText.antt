@@ -1,7 +1,7 @@
 -- The texts of what the writers of commands and the reader of status words say.
 -- Assumes nothing.
 use Rattle.std.specs.Prelude.{cond, List, [], ◌∷◌, ◌++◌, ℕ, eqb, leb, length, get_or, take, drop, replicate}
-use Rattle.card.specs.Command.{select_of, get_orata_of, get_response_of, status_of}
+use Rattle.card.specs.Command.{select_of, get_data_of, get_response_of, status_of}
 use Rattle.card.specs.declared.object.Kind.{Kind}
 use Rattle.card.specs.declared.command.Status.{Status}
 use Rattle.card.specs.declared.command.Status.TheVariants.{Done, More, Again, Other}
@@ -47,8 +47,8 @@ unfoldable pub select_again_text : ℕ → List ℕ → List ℕ
 select_again_text room s = select_text (get_or s 0 0) room (drop 1 s)
 
 -- GET DATA of an object; the line spells no bytes, or the last byte.
-unfoldable pub get_orata_text : Kind → ℕ → List ℕ → List ℕ
-get_orata_text k room s = cond (leb (length s) 1) (command_text (get_orata_of k (get_or s 0 0) (spare room))) no_vector
+unfoldable pub get_data_text : Kind → ℕ → List ℕ → List ℕ
+get_data_text k room s = cond (leb (length s) 1) (command_text (get_data_of k (get_or s 0 0) (spare room))) no_vector
 
 -- GET RESPONSE with the one byte of s.
 unfoldable pub get_response_text : ℕ → List ℕ → List ℕ

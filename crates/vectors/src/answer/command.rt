@@ -1,9 +1,9 @@
 // The texts of what the writers of commands and the reader of status words say.
 ghost use Rattle.std.specs.Prelude.{◌≡◌, [], ◌∷◌, ◌++◌};
-ghost use Rattle.card.specs.Command.{command_answer, select_of, get_orata_of, get_response_of};
+ghost use Rattle.card.specs.Command.{command_answer, select_of, get_data_of, get_response_of};
 ghost use Rattle.text.specs.Hex.{hex_of};
 ghost use Rattle.append.specs.Append.{Added};
-ghost use Rattle.vectors.specs.CommandText.{written_text, unwritten_text, command_text, select_text, select_again_text, get_orata_text, get_response_text, status_text};
+ghost use Rattle.vectors.specs.CommandText.{written_text, unwritten_text, command_text, select_text, select_again_text, get_data_text, get_response_text, status_text};
 
 use crate::refusal;
 use card::command;
@@ -56,8 +56,8 @@ fn select_into(out: &mut [u8], at: usize, s: &[u8], last: u8, buffer: &mut [u8])
 
 // GET DATA of an object with a last byte, into a buffer.
 fn get_data_into(out: &mut [u8], at: usize, kind: Kind, last: u8, buffer: &mut [u8]) -> usize
-    ensures text { Added out.old at out.new result (command_text (get_orata_of kind last buffer.old)) }
-    ensures holds { buffer.new ≡ (get_orata_of kind last buffer.old).1 }
+    ensures text { Added out.old at out.new result (command_text (get_data_of kind last buffer.old)) }
+    ensures holds { buffer.new ≡ (get_data_of kind last buffer.old).1 }
 {
     let answer = command::get_data(kind, last, buffer);
     add_answer(out, at, answer, buffer)
@@ -90,7 +90,7 @@ pub(crate) fn add_select_again(out: &mut [u8], at: usize, room: usize, s: &[u8])
 
 // What get_data says, with so much room; the line spells no bytes, or the last byte.
 pub(crate) fn add_get_data(out: &mut [u8], at: usize, kind: Kind, room: usize, s: &[u8]) -> usize
-    ensures { Added out.old at out.new result (get_orata_text kind room s.now) }
+    ensures { Added out.old at out.new result (get_data_text kind room s.now) }
 {
     if 1 < s.len() {
         return refusal::add_no_vector(out, at);

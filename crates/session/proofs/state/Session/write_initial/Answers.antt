@@ -5,7 +5,7 @@ use native.Mathlib.Omega.{arith}
 use lib.ListN.{length}
 use lib.Seq.{length-take-le}
 use Rattle.session.proofs.RangesLaws.{aid_in_range}
-use Rattle.session.proofs.SendLaws.{select_written, get_orata_written}
+use Rattle.session.proofs.SendLaws.{select_written, get_data_written}
 use Rattle.session.proofs.state.Session.write_initial.Goals as goal
 use Rattle.session.proofs.state.Session.write_initial.Goals.{After-sized_aid}
 
@@ -24,4 +24,4 @@ returns-then-step-eq0 c =
 
 pub returns : goal.returns
 returns c =
-    c.get_data.ensures ∙ rw c.kind_at.ensures (get_orata_written c.args.self c.args.last c.args.out.now c.if-step-eq0.false)
+    c.get_data.ensures ∙ rw c.kind_at.ensures (get_data_written c.args.self c.args.last c.args.out.now c.if-step-eq0.false)
