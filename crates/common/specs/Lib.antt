@@ -7,5 +7,5 @@ pub mod Decimal
 pub mod Refusal
 -- SliceCode: how the code goes about looking for a byte; no public contract cites it
 pub mod SliceCode
--- Bytes: where a byte stands in a list, and a part of a list
+-- Bytes: where a byte stands in a list
 pub mod Bytes

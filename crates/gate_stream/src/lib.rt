@@ -2,7 +2,7 @@
 //
 // No contract can say what the system reads or writes. What these contracts say: the bytes that are fed are the first of the buffer that was read into, as many as
 // the read gave; what is handed on to be written is the text of those bytes, whole; the program goes on while the number that the read gave is above 0 and the
-// write said that it was taken; and what is handed on at the end is the text of the definitions, or nothing where a read or a write failed. `one_block` alone
+// write said that it was taken; and what is handed on at the end is the text of the definitions, or nothing where a read or a write failed. `read_some` alone
 // reads, `write_out` and `complain` alone write.
 #![tactic(auto)]
 
@@ -126,7 +126,7 @@ fn run_block(
     at
 }
 
-// The first n bytes of out, handed on to standard output.
+// The first n bytes of out, handed on to the writer.
 fn write_out<W: Write>(to: &mut W, out: &[u8], n: usize) -> Wrote
     requires { n ≤ length out.now }
     ensures { result.count ≡ n }

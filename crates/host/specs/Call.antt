@@ -1,4 +1,4 @@
--- What the exported calls leave of an image and of a number that they write through a pointer; and which image comes from a history (demand 3 at the boundary).
+-- What the calls, which host_c exports, leave of an image and of a number that they write through a pointer; and which image comes from a history (demand 3 at the boundary).
 -- Assumes nothing.
 use Rattle.std.specs.Prelude.{◌≡◌, cond, List, ℕ, eqb}
 use Rattle.card.specs.declared.object.Part.{Part}
@@ -19,7 +19,7 @@ where_number k n new old = cond (eqb n k) new old
 abbrev pub place_given : FieldPlace → Part
 place_given place = record { start = place.start; len = place.length }
 
--- An image comes from a history where it has the session with which the history ends. The clauses `for_every_list` of the exported calls are the session's own, of the session of the image that came in
+-- An image comes from a history where it has the session with which the history ends. The clauses `for_every_list` of the calls are the session's own, of the session of the image that came in
 -- and of the image that is left: so the image left comes from the history with that call at its end (proofs/BoundaryLaws.antt).
 abbrev pub ImageOf : History → List ℕ → Type 0
 ImageOf h b = load_of b ≡ (finish h).session

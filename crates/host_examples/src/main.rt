@@ -1,4 +1,4 @@
-// The exchanges of the sample hosts (hosts/host.c, hosts/host.rs), made by the exported calls of crate host: document 01's example, a mode 4 reading cut into small answers, a session saved and
+// The exchanges of the sample hosts (hosts/host.c, hosts/host.rs), made by the calls of crate host, which host_c exports: document 01's example, a mode 4 reading cut into small answers, a session saved and
 // taken up again, and a cancelled list read from text. The expected lines, in the file `stdout`, are written from the documents; tools/run_hosts compares what the two hosts print with them.
 //
 // The functions of this file make calls and write; the text of each line is made by a proved function (src/line.rt).
