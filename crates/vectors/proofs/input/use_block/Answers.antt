@@ -14,6 +14,3 @@ used_inside c = omega (arith, c.add_lines-done.ensures.inside, ap length c.front
 pub returns : goal.returns
 returns c = let is = kept_is c.args.block.now c.add_lines-done.result.used c.args.end c.requires (used_inside (goal.at.returns c).After-add_lines-done) (rw c.front.ensures at c.add_lines-done.ensures.rest) in
     record { text = rw c.front.ensures at c.add_lines-done.ensures.text; holds = c.keep-held.ensures.holds ∙ is.0; held = (c.keep-held.ensures.is ∙ is.1, omega (arith, c.keep-held.ensures.is)) }
-
-pub keep-held-requires : goal.keep-held-requires
-keep-held-requires c = (used_inside (goal.at.keep-held-requires c).After-add_lines-done, c.requires)

@@ -1,18 +1,12 @@
 -- `vectors::line::add_call` meets its contract: an answer, or no vector. Assumes nothing.
 use mathlib.Core.Path.{◌≡◌}
 use mathlib.Core.Bool.{true, false, ◌&&◌}
-use borrow.Author.Tests.{leb-true}
 use lib.Dec.{leb}
 use lib.ListN.{length}
 use Rattle.text.specs.Hex.{is_hex}
 use Rattle.append.proofs.AppendLaws.{when, unless}
 use Rattle.vectors.specs.Line.{call_text}
-use Rattle.common.proofs.TestLaws.{and_right}
 use Rattle.vectors.proofs.line.add_call.Goals as goal
-
-pub add_spelled-requires : goal.add_spelled-requires
-add_spelled-requires c =
-    leb-true _ _ (and_right c.is_hex.result (leb (length c.args.digits.now) 131072) c.if-is_hex-digits.true)
 
 pub returns-then-is_hex-digits : goal.returns-then-is_hex-digits
 unfolding call_text

@@ -1,17 +1,11 @@
 -- `vectors::answer::calls::run_calls` meets its contract: a turn makes a call. Assumes nothing.
 use mathlib.Core.Path.{◌≡◌, ap, ◌∙◌}
-use native.Mathlib.Omega.{arith}
 use borrow.Author.Rules.{rules}
-use lib.ListN.{length, length-drop}
+use lib.ListN.{length}
 use Rattle.append.proofs.AppendLaws.{adding_end}
 use Rattle.vectors.specs.CallsText.{call_texts, host_at}
 use Rattle.vectors.proofs.CallsLaws.{no_call, one_call, all_calls_lem}
 use Rattle.vectors.proofs.answer.calls.run_calls.Goals as goal
-
-pub overflow_add-from : goal.overflow_add-from
-overflow_add-from c =
-    let size = ap length c.after-left.ensures ∙ length-drop c.loop-i.from c.args.s.now in
-    omega (arith, c.loop-i.invariant.1.1.inside, c.least-from.ensures.inside.0, size)
 
 pub loop-i-init : goal.loop-i-init
 loop-i-init c = (search rules, (search rules, no_call _ _ c.add-end.ensures))

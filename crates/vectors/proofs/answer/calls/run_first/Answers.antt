@@ -3,10 +3,8 @@ use mathlib.Core.Path.{◌≡◌, sym, ap, ◌∙◌}
 use mathlib.Core.Bool.{Bool, false, cond}
 use mathlib.Core.List.{List}
 use Prim.Native.Nat.{ℕ}
-use native.Mathlib.Omega.{arith}
 use borrow.Author.Tests.{eq-eqb, ne_eqb}
 use lib.ListN.{take, drop, replicate}
-use lib.Seq.{length-take-le}
 use Rattle.common.proofs.ListsLaws.{take_most}
 use Rattle.session.specs.Promise.{Host}
 use Rattle.append.proofs.AppendLaws.{same_text, when, unless}
@@ -24,9 +22,6 @@ otherwise x {z = z} e p = p ∙ sym (ap (λ (b : Bool). cond b x z) e)
 pub returns-then-s-eq0 : goal.returns-then-s-eq0
 unfolding first_text after_first
 returns-then-s-eq0 c = let e = eq-eqb _ _ c.if-s-eq0.true in record { text = when _ e c.add-end.ensures; host = rw e }
-
-pub slice_bounds-run_call-end : goal.slice_bounds-run_call-end
-slice_bounds-run_call-end c = sym (length-take-le _ (replicate 64 255) (omega arith))
 
 pub returns : goal.returns
 unfolding first_text after_first

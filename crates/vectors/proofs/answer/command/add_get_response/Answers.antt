@@ -1,11 +1,9 @@
 -- `vectors::answer::command::add_get_response` meets its contract: the room of the buffer. Assumes nothing.
-use mathlib.Core.Path.{sym, ap}
+use mathlib.Core.Path.{ap}
 use mathlib.Core.List.{List}
 use Prim.Native.Nat.{ℕ}
-use native.Mathlib.Omega.{arith}
 use borrow.Author.Tests.{eq-eqb, ne_eqb}
 use lib.ListN.{get_or, replicate}
-use lib.Seq.{length-take-le}
 use Rattle.card.specs.Command.{get_response_of}
 use Rattle.append.proofs.AppendLaws.{same_text, when, unless}
 use Rattle.vectors.specs.CommandText.{command_text, spare, get_response_text}
@@ -16,9 +14,6 @@ pub returns-then-s-ne1 : goal.returns-then-s-ne1
 unfolding get_response_text
 returns-then-s-ne1 c =
     unless _ (ne_eqb _ _ c.if-s-ne1.true) c.add_no_vector.ensures
-
-pub slice_bounds-get_response_into-end : goal.slice_bounds-get_response_into-end
-slice_bounds-get_response_into-end c = sym (length-take-le _ (replicate 24 255) (omega arith))
 
 pub returns : goal.returns
 unfolding get_response_text spare

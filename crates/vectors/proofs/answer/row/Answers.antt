@@ -1,9 +1,0 @@
--- `vectors::answer::row` meets its contract: the test is the definition's. Assumes nothing.
-use mathlib.Core.Path.{sym, ◌∙◌}
-use Rattle.vectors.proofs.answer.row.Goals as goal
-
-pub returns-then-same : goal.returns-then-same
-returns-then-same c = rw (sym c.same.ensures ∙ c.if-same.true)
-
-pub returns-else-same : goal.returns-else-same
-returns-else-same c = rw (sym c.same.ensures ∙ c.if-same.false)
