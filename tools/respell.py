@@ -35,8 +35,8 @@ def read(path):
 
 
 def snake(word):
-    word = re.sub(r"(?<=[a-z0-9])(?=[A-Z])", "_", word)
-    return word.lower() if "_" in word else word
+    """Camel case in snake case. A byte, as the C of 6C, is no word of its own."""
+    return re.sub(r"(?<=[a-z])(?=[A-Z])|(?<=[0-9])(?=[A-Z][a-z])", "_", word).lower()
 
 
 def declared(root):

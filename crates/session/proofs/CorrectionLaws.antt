@@ -133,26 +133,26 @@ module _ (f : Figures) (o : Opening) (ts : List Arguments) (size last : ℕ) (ca
   after_taken n e = after_answer f o ts ((countable_all f o ts).sent (taken_sent r size n e)).1
 
   -- a 6C without data: nothing is appended, and the command is to be sent again
-  pub first_6_c : answer_refused r size 2 ≡ 0 → after ≡ false
+  pub first_6c : answer_refused r size 2 ≡ 0 → after ≡ false
       → read r (Arguments.answer size (0x6C ∷ last ∷ []) cancelled) ≡ with_progress r (continued r.progress r.progress.joined (NextCommand.again r.progress.next last))
   unfolding read answer_taken rule_cause status_of same_bytes all
-  first_6_c e x =
+  first_6c e x =
       let m = (countable_all f o ts).small in
       rw (e, after_taken 2 e, x, le-ltb (capacity r.opening.mode r.progress.step) (length r.progress.joined + 0) (omega (arith, m)), append-nil)
 
   -- "makes the next command the same one with its last byte replaced by the second status byte"
-  pub first_6_c_sends : answer_refused r size 2 ≡ 0 → after ≡ false → next_command (read r (Arguments.answer size (0x6C ∷ last ∷ []) cancelled)) ≡ with_last (next_command r) last
-  first_6_c_sends e x = rw (first_6_c e x) (corrected_command r r.progress.joined last)
+  pub first_6c_sends : answer_refused r size 2 ≡ 0 → after ≡ false → next_command (read r (Arguments.answer size (0x6C ∷ last ∷ []) cancelled)) ≡ with_last (next_command r) last
+  first_6c_sends e x = rw (first_6c e x) (corrected_command r r.progress.joined last)
 
   -- "It counts as taken."
-  pub taken_6_c : answer_refused r size 2 ≡ 0 → takes r (Arguments.answer size (0x6C ∷ last ∷ []) cancelled) ≡ true
-  taken_6_c e = rw e
+  pub taken_6c : answer_refused r size 2 ≡ 0 → takes r (Arguments.answer size (0x6C ∷ last ∷ []) cancelled) ≡ true
+  taken_6c e = rw e
 
   -- "A second 6C straight after the first is cause 16"
-  pub second_6_c : answer_refused r size 2 ≡ 0 → after ≡ true
+  pub second_6c : answer_refused r size 2 ≡ 0 → after ≡ true
       → read r (Arguments.answer size (0x6C ∷ last ∷ []) cancelled) ≡ with_progress r (stopped r.progress r.progress.joined status_cause 0x6C last)
   unfolding read answer_taken rule_cause status_of same_bytes all
-  second_6_c e x = rw (e, after_taken 2 e, x)
+  second_6c e x = rw (e, after_taken 2 e, x)
 
   stops_data : (bytes : List ℕ) → (length bytes ≡ 0 → ⊥) → answer_taken r bytes (0x6C ∷ last ∷ []) cancelled ≡ with_progress r (stopped r.progress r.progress.joined status_cause 0x6C last)
   unfolding answer_taken rule_cause status_of same_bytes all
@@ -166,9 +166,9 @@ module _ (f : Figures) (o : Opening) (ts : List Arguments) (size last : ℕ) (ca
       rw (e, n, take-append_seam, drop-append_seam)
 
   -- "and so is a 6C with data"
-  pub data_6_c : (xs : List ℕ) → (length xs ≡ 0 → ⊥) → let bytes = xs ++ (0x6C ∷ last ∷ []) in answer_refused r size (length bytes) ≡ 0
+  pub data_6c : (xs : List ℕ) → (length xs ≡ 0 → ⊥) → let bytes = xs ++ (0x6C ∷ last ∷ []) in answer_refused r size (length bytes) ≡ 0
       → read r (Arguments.answer size bytes cancelled) ≡ with_progress r (stopped r.progress r.progress.joined status_cause 0x6C last)
-  data_6_c xs x e = taken_as xs 0x6C last e ∙ stops_data xs x
+  data_6c xs x e = taken_as xs 0x6C last e ∙ stops_data xs x
 
   stops_other : (xs : List ℕ) (a b : ℕ) → status_of (a ∷ b ∷ []) ≡ Other → answer_taken r xs (a ∷ b ∷ []) cancelled ≡ with_progress r (stopped r.progress r.progress.joined status_cause a b)
   unfolding answer_taken rule_cause

@@ -108,8 +108,8 @@ module _ (mode step : ℕ) (m : List ℕ) where
 abbrev step : Bool → Bool → ℕ
 step x y = cond x 1 (cond y 2 0)
 
-only_BC : (tag : ℕ) → is_in tag step2_tags ≡ true → tag ≡ biometric_tag
-only_BC tag e = eqb-true tag biometric_tag (rw or-false at e)
+only_bc : (tag : ℕ) → is_in tag step2_tags ≡ true → tag ≡ biometric_tag
+only_bc tag e = eqb-true tag biometric_tag (rw or-false at e)
 
 no_tag : (b : Bool) (xs : List ℕ) → cond (b || true) [] xs ≡ []
 no_tag true xs = refl
@@ -123,7 +123,7 @@ field_is r m tag i = rw (in_range_lem r m i) (by_step (is_in tag step1_tags) (is
         → cond (tested r.opening.mode r.progress.step m (step x y)) [] (bytes_at (drop (base_of (step x y)) m) (part_for (session_of r) (step x y) tag))
         ≡ cond (eqb (step x y) 0) [] (field_value (kind_at r.opening.mode (step x y)) tag (joined_at r.found (step x y)))
     by_step true y e = one_value r.opening.mode r.progress.step m tag r.found r.found.step1 i.stage refl i.one
-    by_step false true e = rw (only_BC tag e) (two_value r.opening.mode r.progress.step m r.found r.found.step2 i.stage refl i.two)
+    by_step false true e = rw (only_bc tag e) (two_value r.opening.mode r.progress.step m r.found r.found.step2 i.stage refl i.two)
     by_step false false e = no_tag (not (eqb (length m) object_size)) _
 
 -- a part of a field that the reading has not is empty
@@ -143,7 +143,7 @@ none_read r m object tag i = rw (in_range_lem r m i) (by_step (is_in tag step1_t
     by_step : (x y : Bool) → is_in tag step2_tags ≡ y → cond (eqb (step x y) 0) [] (field_value (kind_at r.opening.mode (step x y)) tag (joined_at r.found (step x y))) ≡ []
         → cond (tested r.opening.mode r.progress.step object (step x y)) [] (bytes_at (drop (base_of (step x y)) object) (part_for (session_of r) (step x y) tag)) ≡ []
     by_step true y t e = either (tested r.opening.mode r.progress.step object 1) _ (no_bytes _ (drop (base_of 1) object) (one_empty r.opening.mode tag r.found.step1 e))
-    by_step false true t e = either (tested r.opening.mode r.progress.step object 2) _ (no_bytes _ (drop (base_of 2) object) (two_empty r.opening.mode r.found.step2 (rw (only_BC tag t) at e)))
+    by_step false true t e = either (tested r.opening.mode r.progress.step object 2) _ (no_bytes _ (drop (base_of 2) object) (two_empty r.opening.mode r.found.step2 (rw (only_bc tag t) at e)))
     by_step false false t e = no_tag (not (eqb (length object) object_size)) _
 
 -- and so is every field of a buffer of another size
