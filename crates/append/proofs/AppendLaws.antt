@@ -1,22 +1,23 @@
--- Texts added one after another to a lent buffer, also by a loop, and numbers in decimal.
+-- Texts added one after another to a buffer of fixed size, also by a loop, and numbers in decimal.
 -- Assumes nothing.
-use mathlib.Core.Path.{◌≡◌, refl, sym, ap, ap₂, ◌∙◌, subst}
+use mathlib.Core.Path.{◌≡◌, refl, sym, ap, ap₂, ◌∙◌}
 use mathlib.Core.Bool.{Bool, true, false, cond}
 use mathlib.Core.List.{List, [], ◌∷◌, ◌++◌, append-nil, append_assoc}
 use Prim.Native.Nat.{ℕ, zero, suc, ◌+◌, ◌-◌, ◌*◌, ◌/◌, ◌%◌, ◌^◌, ◌≤◌, ◌<◌, min, zero-le, suc-le-suc}
-use native.Mathlib.Nat.{le_of_eq, le_refl, zero-add, le_of_suc-le-suc, not-suc-le-zero, pow-suc, one-le-pow, pow-le-pow_right}
+use native.Mathlib.Nat.{le_of_eq, le_of_suc-le-suc, not-suc-le-zero, pow-suc, one-le-pow, pow-le-pow_right}
 use native.Mathlib.Numerals.{add-one}
 use native.Mathlib.Omega.{arith}
 use borrow.Author.Tests.{lt-ltb, le-ltb, leb-true, leb-false}
 use lib.Dec.{ltb, leb, lit≤}
-use lib.ListN.{length, take, drop, take-append-drop, length-append, length-take, length-drop, drop_of_length-le}
-use lib.Seq.{take_all, take_at, take-append_seam, take-append-add, drop-append-add, drop-drop, length-take-le}
-use Rattle.common.specs.Lists.{list_of, written, over_front, over_places}
-use Rattle.common.proofs.ListsLaws.{length-list_of, list_of-append, length_front, take_most}
-use Rattle.common.proofs.TestLaws.{either}
+use lib.ListN.{length, take, drop, length-append, length-take, length-drop}
+use lib.Seq.{take_all, take_at, take-append-add, length-take-le}
+use borrow.Rule.Slice.PartMut.{put_mid}
+use Rattle.common.specs.Lists.{list_of, written}
+use Rattle.common.proofs.ListsLaws.{length-list_of, list_of-append, take_most}
 use Rattle.text.specs.Hex.{hex_digit_at, hex_of}
 use Rattle.text.proofs.HexLaws.{length_hex}
-use Rattle.append.specs.Append.{added, Added, texts_of, decimal_last}
+use Rattle.common.proofs.TestLaws.{either}
+use Rattle.append.specs.Append.{added, texts_of, decimal_last, number_text}
 
 -- ---- one text after another
 
@@ -25,172 +26,114 @@ take_on zero x t = refl
 take_on (suc n) [] t = refl
 take_on (suc n) (a ∷ x) t = ap (λ (l : List ℕ). a ∷ l) (take_on n x t)
 
--- a longer text over the same front
-front_over : (p q b : List ℕ) → length p ≤ length q → over_front q (over_front p b) ≡ over_front q b
-unfolding over_front
-front_over p q b h =
-    let e : length q ≡ length p + (length q - length p) = omega (arith, h) in
-    let d : drop (length q) (p ++ drop (length p) b) ≡ drop (length q) b =
-    ap (λ (n : ℕ). drop n (p ++ drop (length p) b)) e ∙ drop-append-add p (drop (length p) b) (length q - length p)
-    ∙ drop-drop (length q - length p) (length p) b ∙ ap (λ (n : ℕ). drop n b) (sym e) in
-    ap (λ (l : List ℕ). q ++ l) d
-
-front_taken : (p b : List ℕ) → take (length p) (over_front p b) ≡ p
-unfolding over_front
-front_taken p b = take-append_seam p (drop (length p) b)
-
-added_on : (b s t : List ℕ) (at : ℕ) → added (added b at s).1 (added b at s).0 t ≡ added b at (s ++ t)
+-- one text and then another are both as one text; the law of this crate
+pub added_on : (n : ℕ) (x s t : List ℕ) → added n (added n x s) t ≡ added n x (s ++ t)
 unfolding added
-added_on b s t at =
-    let n = length b in
-    let p = take n (take at b ++ s) in
-    let q = take n (take at b ++ (s ++ t)) in
-    let short : length p ≤ n = rw length-take (omega arith) in
-    let e : take (length (over_front p b)) (take (length p) (over_front p b) ++ t) ≡ q =
-    ap₂ (λ (k : ℕ) (l : List ℕ). take k (l ++ t)) (length_front p b short) (front_taken p b) ∙ take_on n (take at b ++ s) t
-    ∙ ap (λ (l : List ℕ). take n l) (append_assoc (take at b) s t) in
-    let longer : length p ≤ length q = simp (length-take, length-append) (omega arith) in
-    ap (λ (l : List ℕ). (length l, over_front l (over_front p b))) e ∙ ap (λ (l : List ℕ). (length q, l)) (front_over p q b longer)
+added_on n x s t = take_on n (x ++ s) t ∙ ap (λ (l : List ℕ). take n l) (append_assoc x s t)
 
--- one text and then another; the law of this crate
-infixl 60 ◌then◌
-pub ◌then◌ : {b0 b1 b2 : List ℕ} {at n m : ℕ} {s t : List ℕ} → Added b0 at b1 n s → Added b1 n b2 m t → Added b0 at b2 m (s ++ t)
-◌then◌ {b0} {b1} {b2} {at} {n} {m} {s} {t} p q = record { is = q.is ∙ ap (λ (x : ℕ × List ℕ). added x.1 x.0 t) p.is ∙ added_on b0 s t at }
+-- the same of what two calls promise
+pub after : (n : ℕ) (a s t : List ℕ) {b d : List ℕ} → b ≡ added n a s → d ≡ added n b t → d ≡ added n a (s ++ t)
+after n a s t p q = q ∙ ap (λ (l : List ℕ). added n l t) p ∙ added_on n a s t
 
--- the same text by another name
-pub same_text : {b0 b1 : List ℕ} {at n : ℕ} {s t : List ℕ} → s ≡ t → Added b0 at b1 n s → Added b0 at b1 n t
-same_text {b0} {b1} {at} {n} e p = subst (Added b0 at b1 n) e p
-
--- a text that goes by a test
-pub when : {b0 b1 : List ℕ} {at n : ℕ} {s : List ℕ} (t : List ℕ) {x : Bool} → x ≡ true → Added b0 at b1 n s → Added b0 at b1 n (cond x s t)
-when {s = s} t e p = same_text (ap (λ (b : Bool). cond b s t) (sym e)) p
-
-pub unless : {b0 b1 : List ℕ} {at n : ℕ} (s : List ℕ) {t : List ℕ} {x : Bool} → x ≡ false → Added b0 at b1 n t → Added b0 at b1 n (cond x s t)
-unless s {t} e p = same_text (ap (λ (b : Bool). cond b s t) (sym e)) p
-
--- what stands in the buffer lies within it
-inside : (b s : List ℕ) (at : ℕ) → ((added b at s).0 ≤ length b) × (length (added b at s).1 ≡ length b)
+-- nothing more leaves a text of the buffer as it is, and so each text that was added
+pub added_none : (n : ℕ) (x : List ℕ) → length x ≤ n → x ≡ added n x []
 unfolding added
-inside b s at =
-    let short : length (take (length b) (take at b ++ s)) ≤ length b = rw length-take (omega arith) in
-    (short, length_front (take (length b) (take at b ++ s)) b short)
+added_none n x h = sym (ap (λ (l : List ℕ). take n l) (append-nil x) ∙ take_all n x h)
 
-pub added_long : {b0 b1 : List ℕ} {at n : ℕ} {s : List ℕ} → Added b0 at b1 n s → length b1 ≡ length b0
-added_long {b0} {at = at} {s = s} p = ap (λ (x : ℕ × List ℕ). length x.1) p.is ∙ (inside b0 s at).1
+pub added_nothing : (n : ℕ) (x s : List ℕ) → added n (added n x s) [] ≡ added n x s
+added_nothing n x s = added_on n x s [] ∙ ap (λ (l : List ℕ). added n x l) (append-nil s)
 
-pub added_inside : {b0 b1 : List ℕ} {at n : ℕ} {s : List ℕ} → Added b0 at b1 n s → n ≤ length b1
-added_inside {b0} {at = at} {s = s} p = let e = ap (λ (x : ℕ × List ℕ). x.0) p.is in omega (arith, (inside b0 s at).0, e, added_long p)
+pub stays : (n : ℕ) (a s : List ℕ) {b : List ℕ} → b ≡ added n a s → added n b [] ≡ b
+stays n a s p = ap (λ (l : List ℕ). added n l []) p ∙ added_nothing n a s ∙ sym p
 
--- so that nothing more leaves all as it is: a loop begins there
-pub added_none : (b : List ℕ) (at : ℕ) → at ≤ length b → Added b at b at []
-unfolding added over_front
-added_none b at h =
-    let e : take (length b) (take at b ++ []) ≡ take at b =
-    ap (λ (l : List ℕ). take (length b) l) (append-nil (take at b)) ∙ take_all (length b) (take at b) (rw length-take (omega arith)) in
-    let k : length (take at b) ≡ at = length-take-le at b h in
-    record {
-      is = sym (ap (λ (l : List ℕ). (length l, l ++ drop (length l) b)) e ∙ ap (λ (i : ℕ). (i, take at b ++ drop i b)) k
-          ∙ ap (λ (l : List ℕ). (at, l)) (take-append-drop at b));
-    }
-
-pub stays : {b0 b1 : List ℕ} {at n : ℕ} {s : List ℕ} → Added b0 at b1 n s → Added b1 n b1 n []
-stays {b1 = b1} {n = n} p = added_none b1 n (added_inside p)
-
--- what stands there then: the text after the first `at` bytes, as far as there is room
-taken_of : (b s : List ℕ) (at : ℕ) → take (added b at s).0 (added b at s).1 ≡ take (length b) (take at b ++ s)
+-- how long a text is then: no longer than the buffer
+pub length_added : (n : ℕ) (x s : List ℕ) → length (added n x s) ≡ min n (length x + length s)
 unfolding added
-taken_of b s at = front_taken (take (length b) (take at b ++ s)) b
+length_added n x s = length-take n (x ++ s) ∙ ap (λ (k : ℕ). min n k) (length-append x s)
 
-pub added_taken : {b0 b1 : List ℕ} {at n : ℕ} {s : List ℕ} → Added b0 at b1 n s → take n b1 ≡ take (length b0) (take at b0 ++ s)
-added_taken {b0} {at = at} {s = s} p = ap (λ (x : ℕ × List ℕ). take x.0 x.1) p.is ∙ taken_of b0 s at
+pub added_inside : (n : ℕ) (x s : List ℕ) → length (added n x s) ≤ n
+added_inside n x s = omega (arith, length_added n x s)
 
--- a text at the front of a buffer that has room for it
-front_of : (b s : List ℕ) → length s ≤ length b → added b 0 s ≡ (length s, over_front s b)
+-- where there is room for all of it nothing is cut, and a text that does not fill the buffer was not cut
+pub added_all : (n : ℕ) (x s : List ℕ) → length x + length s ≤ n → added n x s ≡ x ++ s
 unfolding added
-front_of b s h = ap (λ (t : List ℕ). (length t, over_front t b)) (take_all (length b) s h)
+added_all n x s h = take_all n (x ++ s) (rw length-append h)
 
-pub added_front : {b0 b1 : List ℕ} {n : ℕ} {s : List ℕ} → Added b0 0 b1 n s → length s ≤ length b0 → (n ≡ length s) × (b1 ≡ over_front s b0)
-added_front {b0} {s = s} p h =
-    let e = p.is ∙ front_of b0 s h in
-    (ap (λ (x : ℕ × List ℕ). x.0) e, ap (λ (x : ℕ × List ℕ). x.1) e)
+pub added_whole : (n : ℕ) (x s : List ℕ) → length (added n x s) < n → added n x s ≡ x ++ s
+added_whole n x s h = added_all n x s (omega (arith, h, length_added n x s))
 
--- where the buffer is not full, nothing was cut: the whole text stands after the first `at` bytes
-whole_of : (b s : List ℕ) (at : ℕ) → (added b at s).0 < length b → take (added b at s).0 (added b at s).1 ≡ take at b ++ s
+-- a text in an empty buffer
+pub added_first : (n : ℕ) (s : List ℕ) → added n [] s ≡ take n s
 unfolding added
-whole_of b s at h =
-    let t = take at b ++ s in
-    let short : length t ≤ length b = omega (arith, h, length-take (length b) t) in
-    taken_of b s at ∙ take_all (length b) t short
+added_first n s = refl
 
-pub added_whole : {b0 b1 : List ℕ} {at n : ℕ} {s : List ℕ} → Added b0 at b1 n s → n < length b0 → take n b1 ≡ take at b0 ++ s
-added_whole {b0} {b1} {at} {n} {s} p h =
-    let e = ap (λ (x : ℕ × List ℕ). x.0) p.is in
-    ap (λ (x : ℕ × List ℕ). take x.0 x.1) p.is ∙ whole_of b0 s at (rw (← e) h)
-
--- ---- a text a turn
-
--- of the n texts f, the first i are added to the buffer b after its first `at` bytes, f 0 first; m bytes stand in the
--- buffer d then
-pub record AddedSoFar (b : List ℕ) (at n : ℕ) (f : ℕ → List ℕ) (i : ℕ) (d : List ℕ) (m : ℕ) : Type 0 where
-  pub most : i ≤ n
-  pub long : length d ≡ length b
-  pub is : Added b at d m (texts_of i f)
-
--- none is added yet; what stands in the buffer was added before
-pub adding_none : {a b : List ℕ} {at n m : ℕ} {s : List ℕ} {f : ℕ → List ℕ} → Added a at b m s → AddedSoFar b m n f 0 b m
-unfolding texts_of
-adding_none p = record { most = omega arith; long = refl; is = stays p }
-
--- one more
-pub adding_more : {b d e : List ℕ} {at n i m k : ℕ} {f : ℕ → List ℕ} → AddedSoFar b at n f i d m → i < n → Added d m e k (f i) → AddedSoFar b at n f (i + 1) e k
-unfolding texts_of
-adding_more p h q = record { most = omega arith; long = added_long q ∙ p.long; is = rw add-one (p.is then q) }
-
--- all n are added, after what was added before them
-pub adding_end : {a b d : List ℕ} {at n i m k : ℕ} {s : List ℕ} {f : ℕ → List ℕ} → Added a at b m s → AddedSoFar b m n f i d k → n ≤ i → Added a at d k (s ++ texts_of n f)
-adding_end {n = n} {i} p q h = let e : i ≡ n = omega (arith, q.most) in p then (rw e at q.is)
+-- for a chain of texts: `#![tactic(auto, using(append::proofs::AppendLaws::texts))]`
+pub ruleset texts = (added_on, append_assoc, append-nil)
 
 -- ---- how it is written
 
--- nothing fits after the buffer's end
-pub added_full : (b s : List ℕ) (at : ℕ) → length b ≤ at → added b at s ≡ (length b, b)
-unfolding added over_front
-added_full b s at h =
-    let e : take (length b) (take at b ++ s) ≡ b = ap (λ (l : List ℕ). take (length b) (l ++ s)) (take_all at b h) ∙ take-append_seam b s in
-    ap (λ (l : List ℕ). (length l, l ++ drop (length l) b)) e
-    ∙ ap (λ (l : List ℕ). (length b, l)) (rw (drop_of_length-le b (le_refl (length b)), append-nil))
+-- as much of a text is stored as there is room for
+pub stored : (n : ℕ) (x t s : List ℕ) (k : ℕ) → length x ≤ n → k ≡ min (length s) (n - length x) → t ≡ take k s → x ++ t ≡ added n x s
+unfolding added
+stored n x t s k h e f =
+    let size : n ≡ length x + (n - length x) = omega (arith, h) in
+    ap (λ (l : List ℕ). x ++ l) (f ∙ take_most k (n - length x) s e)
+    ∙ sym (ap (λ (i : ℕ). take i (x ++ s)) size ∙ take-append-add x s (n - length x))
 
--- else it is stored as far as there is room
-pub added-part : (b s t : List ℕ) (at n : ℕ) → at ≤ length b → n ≡ min (length s) (length b - at) → t ≡ take n s → (at + n, over_places b at t) ≡ added b at s
-unfolding added over_front over_places
-added-part b s t at n h e f =
-    let room = length b - at in
-    let k : length (take at b) ≡ at = length-take-le at b h in
-    let size : length b ≡ length (take at b) + room = omega (arith, h, k) in
-    let long : length (take n s) ≡ n = length-take-le n s (omega (arith, e)) in
-    let cut : take room s ≡ t = sym (f ∙ take_most n room s e) in
-    let whole : take (length b) (take at b ++ s) ≡ take at b ++ t =
-    ap (λ (i : ℕ). take i (take at b ++ s)) size ∙ take-append-add (take at b) s room ∙ ap (λ (l : List ℕ). take at b ++ l) cut in
-    let both : length (take at b ++ t) ≡ at + n = length-append (take at b) t ∙ ap₂ (λ (i j : ℕ). i + j) k (ap length f ∙ long) in
-    let tail : at + length t ≡ at + n = ap (λ (i : ℕ). at + i) (ap length f ∙ long) in
-    sym (ap (λ (l : List ℕ). (length l, l ++ drop (length l) b)) whole ∙ rw (both, tail))
-
--- digits stored in the part of the buffer from place `at` on
-pub hex_part : (d s : List ℕ) (at n : ℕ) {l : List ℕ} → at ≤ length d → n ≡ min (2 * length s) (length (take (length d - at) (drop at d)))
-    → l ≡ written (take (length d - at) (drop at d)) 0 n (hex_digit_at s) → Added d at (take at d ++ (l ++ drop (length d - at) (drop at d))) (at + n) (hex_of s)
-unfolding written over_places hex_of
-hex_part d s at n {l} h e p =
-    let room = length d - at in
+-- digits stored in the rest of the buffer d after its first i bytes, which the text x is
+pub hex_stored : (n i k : ℕ) (d x s l : List ℕ) → length d ≡ n → i ≤ n → take i d ≡ x → k ≡ min (2 * length s) (length (take (length d - i) (drop i d)))
+    → l ≡ written (take (length d - i) (drop i d)) 0 k (hex_digit_at s) → take (i + k) (put_mid i (length d - i) d l) ≡ added n x (hex_of s)
+unfolding written hex_of
+hex_stored n i k d x s l long h first e p =
     let f = hex_digit_at s in
-    let part : take room (drop at d) ≡ drop at d = take_all room (drop at d) (le_of_eq (length-drop at d)) in
-    let size : n ≡ min (length (hex_of s)) room = rw (length_hex, ← length-drop at d) (rw part at e) in
-    let t : take n (hex_of s) ≡ list_of n f =
-    let k : 2 * length s ≡ n + (2 * length s - n) = omega (arith, size, length_hex s) in
-    ap (λ (i : ℕ). take n (list_of i f)) k ∙ ap (λ (x : List ℕ). take n x) (list_of-append n (2 * length s - n) f) ∙ take_at (list_of n f) _ n (length-list_of n f) in
-    let whole : take at d ++ (l ++ drop room (drop at d)) ≡ over_places d at (list_of n f) =
-    rw (drop_of_length-le (drop at d) (le_of_eq (length-drop at d)), append-nil, p, part, zero-add, drop-drop, length-list_of)
-    (sym (append_assoc (take at d) (list_of n f) (drop (at + n) d))) in
-    record { is = ap (λ (x : List ℕ). (at + n, x)) whole ∙ added-part d (hex_of s) (list_of n f) at n h size (sym t) }
+    let rest = drop (length d - i) (drop i d) in
+    let size : length x ≡ i = sym (ap length first) ∙ length-take-le i d (omega (arith, long, h)) in
+    let part : take (length d - i) (drop i d) ≡ drop i d = take_all (length d - i) (drop i d) (le_of_eq (length-drop i d)) in
+    let count : k ≡ min (length (hex_of s)) (n - length x) = rw (length_hex, size, ← long, ← length-drop i d) (rw part at e) in
+    let most : 2 * length s ≡ k + (2 * length s - k) = omega (arith, count, length_hex s) in
+    let digits : list_of k f ≡ take k (hex_of s) =
+    sym (ap (λ (j : ℕ). take k (list_of j f)) most ∙ ap (λ (t : List ℕ). take k t) (list_of-append k (2 * length s - k) f) ∙ take_at (list_of k f) _ k (length-list_of k f)) in
+    let new : take k (l ++ rest) ≡ list_of k f =
+    ap (λ (t : List ℕ). take k (t ++ rest)) p ∙ ap (λ (t : List ℕ). take k t) (append_assoc (list_of k f) (drop (0 + k) (take (length d - i) (drop i d))) rest)
+    ∙ take_at (list_of k f) _ k (length-list_of k f) in
+    ap (λ (t : List ℕ). take (i + k) (t ++ (l ++ rest))) first
+    ∙ ap (λ (j : ℕ). take (j + k) (x ++ (l ++ rest))) (sym size)
+    ∙ take-append-add x (l ++ rest) k ∙ ap (λ (t : List ℕ). x ++ t) new
+    ∙ stored n x (list_of k f) (hex_of s) k (omega (arith, size, h)) count digits
+
+-- ---- a text a turn
+
+-- of the n texts f, the first i are added to the text a of a buffer of size m, f 0 first; the text d stands there then,
+-- which is no longer than the buffer once a text is added, or where a is not (`added_nothing`)
+pub record AddedSoFar (m : ℕ) (a : List ℕ) (n : ℕ) (f : ℕ → List ℕ) (i : ℕ) (d : List ℕ) : Type 0 where
+  pub most : i ≤ n
+  pub is : added m d [] ≡ added m a (texts_of i f)
+  pub fits : 0 < i → added m d [] ≡ d
+  pub fits_before : added m a [] ≡ a → added m d [] ≡ d
+
+-- none is added yet
+pub adding_none : {m n : ℕ} {a : List ℕ} {f : ℕ → List ℕ} → AddedSoFar m a n f 0 a
+unfolding texts_of
+adding_none = record { most = omega arith; is = refl; fits = λ h. absurd (omega (arith, h)); fits_before = λ e. e }
+
+-- one more
+pub adding_more : {m n i : ℕ} {a d e : List ℕ} {f : ℕ → List ℕ} → AddedSoFar m a n f i d → i < n → e ≡ added m d (f i) → AddedSoFar m a n f (i + 1) e
+unfolding texts_of
+adding_more {m} {n} {i} {a} {d} {e} {f} p h q =
+    let fits : added m e [] ≡ e = ap (λ (l : List ℕ). added m l []) q ∙ added_nothing m d (f i) ∙ sym q in
+    let next : added m d (f i) ≡ added m a (texts_of i f ++ f i) =
+    sym (added_on m d [] (f i)) ∙ ap (λ (l : List ℕ). added m l (f i)) p.is ∙ added_on m a (texts_of i f) (f i) in
+    record { most = omega arith; is = rw add-one (fits ∙ q ∙ next); fits = λ g. fits; fits_before = λ g. fits }
+
+-- all n are added
+pub adding_end : {m n i : ℕ} {a d : List ℕ} {f : ℕ → List ℕ} → AddedSoFar m a n f i d → n ≤ i → added m d [] ≡ d → d ≡ added m a (texts_of n f)
+adding_end {n = n} {i} p h g = let e : i ≡ n = omega (arith, p.most) in sym g ∙ rw e at p.is
+
+-- and one text more
+pub adding_end_then : {m n i : ℕ} {a d : List ℕ} {f : ℕ → List ℕ} (s : List ℕ) → AddedSoFar m a n f i d → n ≤ i → added m d s ≡ added m a (texts_of n f ++ s)
+adding_end_then {m} {n} {i} {a} {d} {f} s p h =
+    let e : i ≡ n = omega (arith, p.most) in
+    sym (added_on m d [] s) ∙ ap (λ (l : List ℕ). added m l s) (rw e at p.is) ∙ added_on m a (texts_of n f) s
 
 -- ---- numbers
 
@@ -262,3 +205,28 @@ at_most_20 k n h e = by (leb k 20) refl
         let p : 10 ^ 20 ≤ 10 ^ (k - 1) = pow-le-pow_right {n = 10} (lit≤ tt) j in
         let l = e.2 (omega (arith, g)) in
         absurd (not_le p l)
+
+-- more digits than a number has are not asked for
+decimal_more : (k n : ℕ) → n < 10 ^ suc k → decimal_last (suc k) n ≡ decimal_last (suc (suc k)) n
+unfolding decimal_last
+decimal_more zero n h = let small : n < 10 = h in rw (lt-ltb n 10 small) refl
+decimal_more (suc k) n h =
+    let p = pow-suc 10 (suc k) in
+    let less : n / 10 < 10 ^ suc k = omega (arith, p, h) in
+    ap (λ (l : List ℕ). cond (ltb n 10) ((48 + n) ∷ []) (l ++ ((48 + n % 10) ∷ []))) (decimal_more k (n / 10) less)
+
+-- a number of more than one digit: the digits of its tenth, and its last
+last_of : (k n : ℕ) → 10 ≤ n → decimal_last (suc k) n ≡ decimal_last k (n / 10) ++ ((48 + n % 10) ∷ [])
+unfolding decimal_last
+last_of k n h = rw (le-ltb n 10 h) refl
+
+-- the digits of a number of 64 bits: the one digit, or those of the tenth and the last
+pub number_small : (n : ℕ) → n < 10 → number_text n ≡ (48 + n) ∷ []
+unfolding number_text decimal_last
+number_small n h = rw (lt-ltb n 10 h) refl
+
+pub number_large : (n : ℕ) → 10 ≤ n → n < 2 ^ 64 → number_text n ≡ number_text (n / 10) ++ ((48 + n % 10) ∷ [])
+unfolding number_text
+number_large n h l =
+    let less : n / 10 < 10 ^ 19 = omega (arith, h, l) in
+    last_of 19 n h ∙ ap (λ (t : List ℕ). t ++ ((48 + n % 10) ∷ [])) (decimal_more 18 (n / 10) less)

@@ -1,21 +1,13 @@
--- Text written into a lent buffer after what stands there, texts one after another, and numbers as text.
+-- Text in a buffer of fixed size, texts one after another, and numbers as text.
 -- Assumes nothing.
-use Rattle.std.specs.Prelude.{◌≡◌, cond, List, [], ◌∷◌, ◌++◌, ℕ, zero, suc, ◌+◌, ◌/◌, ◌%◌, ltb, length, take}
-use Rattle.common.specs.Lists.{over_front}
+use Rattle.std.specs.Prelude.{cond, List, [], ◌∷◌, ◌++◌, ℕ, zero, suc, ◌+◌, ◌/◌, ◌%◌, ltb, take}
 
--- ---- a lent buffer
+-- ---- a buffer
 
--- The text s after the first `at` bytes of the buffer l, as far as l has room: how many bytes stand there then, and the
--- whole buffer, every later byte of which is as it was. Where they are fewer than l has, nothing was cut.
-unfoldable pub added : List ℕ → ℕ → List ℕ → ℕ × List ℕ
-added l at s =
-    let text = take (length l) (take at l ++ s) in
-    (length text, over_front text l)
-
--- What a function does that writes a text: it is lent the buffer before, answers with the count, and leaves the buffer
--- after.
-pub record Added (before : List ℕ) (at : ℕ) (after : List ℕ) (count : ℕ) (text : List ℕ) : Type 0 where
-  pub is : (count, after) ≡ added before at text
+-- The text s after the text that stands in a buffer of n bytes, as far as there is room. Where the whole is shorter than
+-- n bytes, nothing was cut.
+unfoldable pub added : ℕ → List ℕ → List ℕ → List ℕ
+added n text s = take n (text ++ s)
 
 -- ---- texts one after another
 

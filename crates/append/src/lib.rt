@@ -1,60 +1,101 @@
-// Text written into a lent buffer after what stands there: bytes, hexadecimal digits, and numbers in decimal.
+// Text in a buffer of fixed size: bytes, hexadecimal digits, and numbers in decimal, added one after another.
 #![tactic(auto)]
 
-ghost use Rattle.std.specs.Prelude.{◌≡◌, ◌<◌, drop};
+ghost use Rattle.std.specs.Prelude.{◌≡◌, List, [], ℕ, ◌≤◌, eqb, length, take};
 ghost use Rattle.text.specs.Hex.{hex_of};
-ghost use Rattle.append.specs.Append.{Added, number_text};
+ghost use Rattle.append.specs.Append.{added, number_text};
 
-use common::{number, slice};
+use std::marker::Model;
 use text::hex;
 
-// The most decimal digits of a number of 64 bits.
-const DECIMAL: usize = 20;
-
-// The bytes s.
-pub fn add(out: &mut [u8], at: usize, s: &[u8]) -> usize
-    ensures { Added out.old at out.new result s.now }
-{
-    if out.len() <= at {
-        return out.len();
-    }
-    let n = number::least(s.len(), out.len() - at);
-    slice::store(out, at, &s[..n]);
-    at + n
+// At most `N` bytes of text. What is added past that is cut off; a text of fewer than `N` bytes is whole.
+#[derive(Drop)]
+pub struct Text<const N: usize> {
+    bytes: [u8; N],
+    len: usize,
 }
 
-// The digits that spell the bytes s.
-pub fn add_hex(out: &mut [u8], at: usize, s: &[u8]) -> usize
-    ensures { Added out.old at out.new result (hex_of s.now) }
-{
-    if out.len() <= at {
-        return out.len();
-    }
-    let n = hex::write(s, &mut out[at..]);
-    at + n
+// Clauses see the bytes of the text.
+impl<const N: usize> Model for Text<N> {
+    ghost Value = { List ℕ };
+
+    ghost view = { λ t. take t.len t.bytes };
+
+    ghost invariant = { λ t. t.len ≤ N };
 }
 
-// The digits of n in decimal, stored at the end of out; the place where they begin.
-fn put_decimal(n: u64, out: &mut [u8; DECIMAL]) -> usize
-    ensures inside { result < 20 }
-    ensures stores { drop result out.new ≡ number_text n }
-{
-    let mut k = DECIMAL - 1;
-    let mut rest = n;
-    while rest >= 10 {
-        out[k] = 48 + (rest % 10) as u8;
-        rest /= 10;
-        k -= 1;
+impl<const N: usize> Text<N> {
+    // No text.
+    pub fn new() -> Self
+        ensures { result ≡ [] }
+    {
+        Text {
+            bytes: [0; N],
+            len: 0,
+        }
     }
-    out[k] = 48 + rest as u8;
-    k
-}
 
-// The number n in decimal.
-pub fn add_decimal(out: &mut [u8], at: usize, n: u64) -> usize
-    ensures { Added out.old at out.new result (number_text n) }
-{
-    let mut digits = [0u8; DECIMAL];
-    let k = put_decimal(n, &mut digits);
-    add(out, at, &digits[k..])
+    // How many bytes the text has.
+    pub fn len(&self) -> usize
+        ensures is { result ≡ length self.now }
+        ensures within { result ≤ N }
+    {
+        self.len
+    }
+
+    // Nothing more fits, so that the text may be cut.
+    pub fn is_full(&self) -> bool
+        ensures is { result ≡ eqb (length self.now) N }
+        ensures within { length self.now ≤ N }
+    {
+        self.len == N
+    }
+
+    // The bytes of the text, and none of those after it in the buffer.
+    pub fn as_bytes(&self) -> &[u8]
+        ensures { result.now ≡ self.now }
+    {
+        &self.bytes[..self.len]
+    }
+
+    // No text again.
+    pub fn clear(&mut self)
+        ensures { self.new ≡ [] }
+    {
+        self.len = 0;
+    }
+
+    // The bytes s.
+    pub fn add(&mut self, s: &[u8])
+        ensures { self.new ≡ added N self.old s.now }
+    {
+        let n = s.len().min(N - self.len);
+        let end = self.len + n;
+        // the whole first: the borrow checker covers no part of an array whose length is a parameter
+        let all = &mut self.bytes[..];
+        all[self.len..end].copy_from_slice(&s[..n]);
+        self.len = end;
+    }
+
+    // The digits that spell the bytes s.
+    pub fn add_hex(&mut self, s: &[u8])
+        ensures { self.new ≡ added N self.old (hex_of s.now) }
+    {
+        // the whole first, as in add
+        let all = &mut self.bytes[..];
+        let n = hex::write(s, &mut all[self.len..]);
+        self.len += n;
+    }
+
+    // The number n in decimal: all digits but the last, and the last.
+    // Not by `write!`: the clauses of `fmt::Write` say what was written where it answers Ok, and not that it does.
+    #[tactic(auto, using(crate::proofs::AppendLaws::added_on, crate::proofs::AppendLaws::number_small, crate::proofs::AppendLaws::number_large))]
+    pub fn add_decimal(&mut self, n: u64)
+        ensures { self.new ≡ added N self.old (number_text n) }
+    {
+        if n >= 10 {
+            self.add_decimal(n / 10);
+        }
+        self.add(&[b'0' + (n % 10) as u8]);
+    }
 }

@@ -12,7 +12,7 @@ use lib.Seq.{set-append_seam, get_or-set_other}
 use Rattle.common.specs.Lists.{over_front, all, same_bytes}
 use Rattle.card.specs.Object.{object_tag}
 use Rattle.card.specs.Command.{with_last, select_beside, select_bytes, get_data_bytes, get_response_bytes, command_written, command_into, aid_least, aid_most, aid_refused, select_of, get_data_of, get_response_of, status_of}
-use Rattle.card.specs.declared.command.Status.TheVariants.{Other}
+use Rattle.card.specs.declared.command.Status.TheVariants.{Done, More, Again, Other}
 use Rattle.card.specs.declared.object.Kind.{Kind}
 use Rattle.card.specs.declared.object.Kind.TheVariants.{Signed, Unsigned, Fingers, Picture}
 
@@ -98,6 +98,48 @@ get_response_last second last = refl
 first_other : (a x : ℕ) → (a ≡ x → ⊥) → same_bytes (a ∷ []) (x ∷ []) ≡ false
 unfolding same_bytes all
 first_other a x f = rw (ne_eqb a x f)
+
+-- what is not two bytes is another
+pub status_not_two : (s : List ℕ) → (length s ≡ 2 → ⊥) → Other ≡ status_of s
+unfolding status_of
+status_not_two s h = rw (ne_eqb _ _ h)
+
+-- two bytes, by their values: 90 00, 61 and a byte, 6C and a byte
+pub status_done : (s : List ℕ) → 2 ≤ length s → length s < 3 → get_or s 0 0 ≡ 0x90 → get_or s 1 0 ≡ 0x00 → Done ≡ status_of s
+unfolding status_of same_bytes all
+status_done [] n m a b = absurd (omega arith)
+status_done (x ∷ []) n m a b = absurd (omega arith)
+status_done (x ∷ y ∷ []) n m a b = rw (a, b)
+status_done (x ∷ y ∷ z ∷ s) n m a b = absurd (omega arith)
+
+pub status_more : (s : List ℕ) → 2 ≤ length s → length s < 3 → get_or s 0 0 ≡ 0x61 → More (get_or s 1 0) ≡ status_of s
+unfolding status_of same_bytes all
+status_more [] n m a = absurd (omega arith)
+status_more (x ∷ []) n m a = absurd (omega arith)
+status_more (x ∷ y ∷ []) n m a = rw a
+status_more (x ∷ y ∷ z ∷ s) n m a = absurd (omega arith)
+
+pub status_again : (s : List ℕ) → 2 ≤ length s → length s < 3 → get_or s 0 0 ≡ 0x6C → Again (get_or s 1 0) ≡ status_of s
+unfolding status_of same_bytes all
+status_again [] n m a = absurd (omega arith)
+status_again (x ∷ []) n m a = absurd (omega arith)
+status_again (x ∷ y ∷ []) n m a = rw a
+status_again (x ∷ y ∷ z ∷ s) n m a = absurd (omega arith)
+
+-- 90 and another byte than 00, and any other first byte, are others
+pub status_unlike : (s : List ℕ) → 2 ≤ length s → length s < 3 → get_or s 0 0 ≡ 0x90 → (get_or s 1 0 ≡ 0x00 → ⊥) → Other ≡ status_of s
+unfolding status_of same_bytes all
+status_unlike [] n m a b = absurd (omega arith)
+status_unlike (x ∷ []) n m a b = absurd (omega arith)
+status_unlike (x ∷ y ∷ []) n m a b = rw (a, ne_eqb y 0x00 b)
+status_unlike (x ∷ y ∷ z ∷ s) n m a b = absurd (omega arith)
+
+pub status_none : (s : List ℕ) → 2 ≤ length s → length s < 3 → (get_or s 0 0 ≡ 0x90 → ⊥) → (get_or s 0 0 ≡ 0x61 → ⊥) → (get_or s 0 0 ≡ 0x6C → ⊥) → Other ≡ status_of s
+unfolding status_of same_bytes all
+status_none [] n m a b d = absurd (omega arith)
+status_none (x ∷ []) n m a b d = absurd (omega arith)
+status_none (x ∷ y ∷ []) n m a b d = rw (ne_eqb x 0x90 a, ne_eqb x 0x61 b, ne_eqb x 0x6C d)
+status_none (x ∷ y ∷ z ∷ s) n m a b d = absurd (omega arith)
 
 -- a status word that is not 90 00 and begins with neither 61 nor 6C is another
 pub status_other : (a b : ℕ) → same_bytes (a ∷ b ∷ []) (0x90 ∷ 0x00 ∷ []) ≡ false → (a ≡ 0x61 → ⊥) → (a ≡ 0x6C → ⊥) → status_of (a ∷ b ∷ []) ≡ Other

@@ -11,8 +11,8 @@ use borrow.Author.Tests.{eqb-true, lt-ltb, le-ltb, eq-eqb, ne_eqb}
 use lib.Dec.{ltb, eqb}
 use lib.ListN.{length, get_or, take, drop, length-append, length-drop, get_or-append}
 use lib.Seq.{get_or-drop, get_or-take, take-add, take_at, drop_at, drop-append-add, drop-append_seam, length-take-le}
-use Rattle.card.specs.Tlv.{tag_size, tag_number, nested_bit, length_size, length_of, header_of, tag_bytes, is_tag, length_bytes, fits_form, encoded}
-use Rattle.card.specs.declared.tlv.Header.TheVariants.{Whole}
+use Rattle.card.specs.Tlv.{tag_size, tag_number, nested_bit, length_size, length_of, header_of, tag_bytes, is_tag, length_bytes, fits_form, encoded, header}
+use Rattle.std.specs.Prelude.{Some}
 use Rattle.card.proofs.TlvLaws.{of_three, tag_cases, length_cases, Parts, whole, parts, tag_agree}
 
 -- ---- the bytes of a number
@@ -79,7 +79,7 @@ front_drop f t s e = rw (← e) (simp (get_or-drop, add-zero))
 
 -- the header of what is written
 pub read_back : (form tag : ℕ) (value after : List ℕ) → is_tag tag ≡ true → fits_form form (length value) ≡ true
-    → header_of (encoded form tag value ++ after) ≡ Whole tag (nested_bit (get_or (tag_bytes tag) 0 0)) (length (tag_bytes tag) + form) (length value)
+    → header_of (encoded form tag value ++ after) ≡ Some (header tag (nested_bit (get_or (tag_bytes tag) 0 0)) (length (tag_bytes tag) + form) (length value))
 unfolding encoded
 read_back form tag value after h k =
     let p = tag_bytes tag in
@@ -153,7 +153,7 @@ form_bytes a b c s i j =
     (λ p. (lt-ltb (b * 256 + c) 65536 (omega arith), rw (p, (two_bytes b c j).0, (two_bytes b c j).1)))
 
 -- every TLV that is read is its tag, its length in one of the forms, and its value
-pub written_back : (s : List ℕ) {tag start len : ℕ} {nested : Bool} → ((i : ℕ) → get_or s i 0 < 256) → Whole tag nested start len ≡ header_of s
+pub written_back : (s : List ℕ) {tag start len : ℕ} {nested : Bool} → ((i : ℕ) → get_or s i 0 < 256) → Some (header tag nested start len) ≡ header_of s
     → (is_tag tag ≡ true) × (fits_form (start - length (tag_bytes tag)) len ≡ true) × (start ≡ length (tag_bytes tag) + (start - length (tag_bytes tag)))
     × (take (start + len) s ≡ encoded (start - length (tag_bytes tag)) tag (take len (drop start s)))
 unfolding encoded

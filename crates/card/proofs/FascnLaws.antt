@@ -13,8 +13,10 @@ use Rattle.common.specs.Lists.{all}
 use Rattle.common.specs.Refusal.{refusal_of}
 use Rattle.card.specs.Fascn.{char_bit_at, value_at, odd_at, ByRule, values_in, bytes_of, digits_in, marks_in, decimal_at, check_value, values_of, unpack_refusal, unpack_answer, unpack_of, pack_refusal, pack_of, key_of, unpack_number}
 use Rattle.card.specs.FascnCode.{check_digits}
-use Rattle.card.specs.declared.fascn.UnpackAnswer.{UnpackAnswer}
-use Rattle.card.specs.declared.fascn.UnpackAnswer.TheVariants as unpack-answers
+use Rattle.std.specs.Prelude.{Result, Ok, Err}
+use Rattle.common.specs.Refusal.{number_in}
+use Rattle.card.specs.declared.fascn.UnpackError.{UnpackError}
+use Rattle.card.specs.declared.fascn.UnpackError.TheVariants.{WrongLength, WrongParity, OutOfPlace, WrongCheck}
 use Rattle.common.proofs.ListsLaws.{all_at, length-list_of, get_or_list_of, list_of_is}
 use Rattle.common.proofs.NumberLaws.{number_lt}
 use Rattle.card.proofs.CharacterLaws.{odd_by_rule, bytes_by_rule, values_bytes, odd_bytes, bytes_values}
@@ -51,21 +53,33 @@ unpack_is s e = go (marks_in (values_in s)) refl
 -- ---- what unpack answers
 
 -- an answer's number says its case
-unpack_case : ℕ → UnpackAnswer
-unpack_case n =
-    cond (eqb n 0) unpack-answers.Accepted
-    (cond (eqb n 15) unpack-answers.WrongLength (cond (eqb n 16) unpack-answers.WrongParity (cond (eqb n 17) unpack-answers.OutOfPlace unpack-answers.WrongCheck)))
+unpack_case : ℕ → UnpackError
+unpack_case n = cond (eqb n 15) WrongLength (cond (eqb n 16) WrongParity (cond (eqb n 17) OutOfPlace WrongCheck))
 
-case_is : (a : UnpackAnswer) → unpack_case (unpack_number a) ≡ a
+case_is : (e : UnpackError) → unpack_case (unpack_number e) ≡ e
 unfolding unpack_case
-case_is unpack-answers.Accepted = refl
-case_is unpack-answers.WrongLength = refl
-case_is unpack-answers.WrongParity = refl
-case_is unpack-answers.OutOfPlace = refl
-case_is unpack-answers.WrongCheck = refl
+case_is WrongLength = refl
+case_is WrongParity = refl
+case_is OutOfPlace = refl
+case_is WrongCheck = refl
 
-pub unpack_case_lem : (a b : UnpackAnswer) → unpack_number a ≡ unpack_number b → a ≡ b
-unpack_case_lem a b e = sym (case_is a) ∙ ap unpack_case e ∙ case_is b
+pub unpack_case_lem : (r : Result (List ℕ) UnpackError) (e : UnpackError) → number_in unpack_number r ≡ unpack_number e → r ≡ Err e
+unpack_case_lem (Err f) e p = ap Err (sym (case_is f) ∙ ap unpack_case p ∙ case_is e)
+unpack_case_lem (Ok d) WrongLength p = absurd (omega arith)
+unpack_case_lem (Ok d) WrongParity p = absurd (omega arith)
+unpack_case_lem (Ok d) OutOfPlace p = absurd (omega arith)
+unpack_case_lem (Ok d) WrongCheck p = absurd (omega arith)
+
+-- two errors with one number are the same, and only an accepted FASC-N has the number 0
+pub unpack_error_lem : (e f : UnpackError) → unpack_number e ≡ unpack_number f → e ≡ f
+unpack_error_lem e f p = sym (case_is e) ∙ ap unpack_case p ∙ case_is f
+
+pub unpack_accepted_lem : (r : Result (List ℕ) UnpackError) → number_in unpack_number r ≡ 0 → (d : List ℕ) × (r ≡ Ok d)
+unpack_accepted_lem (Ok d) p = (d, refl)
+unpack_accepted_lem (Err WrongLength) p = absurd (omega arith)
+unpack_accepted_lem (Err WrongParity) p = absurd (omega arith)
+unpack_accepted_lem (Err OutOfPlace) p = absurd (omega arith)
+unpack_accepted_lem (Err WrongCheck) p = absurd (omega arith)
 
 -- ---- what an accepted FASC-N passed
 

@@ -11,12 +11,11 @@ use lib.Dec.{eqb, leb, ltb}
 use lib.ListN.{length, get_or, take, drop, replicate, length-append, length-drop, length-map, take-append-drop, drop_of_length-le, get_or-append, get_or-eq_default}
 use lib.Seq.{take-length, take_all, drop_at, drop-drop, get_or-drop}
 use Rattle.card.specs.Tlv.{tag_size, header_of, only_from, only_of, tag_bytes, is_tag, length_bytes, fits_form, encoded}
-use Rattle.card.specs.Object.{data_object_tag, row_tag, least, greatest, rows_of, most_fields, part, empty, absent, field_from, row_field, fields_from, fields_answer, object_from, object_of, part_in, bytes_at, field_value, Made, no_rows, left_out, given, value_in}
+use Rattle.card.specs.Object.{Field, data_object_tag, row_tag, least, greatest, rows_of, most_fields, part, empty, absent, field_from, row_field, fields_from, fields_answer, object_from, object_of, part_in, bytes_at, field_value, Made, no_rows, left_out, given, value_in}
 use Rattle.card.specs.declared.object.Kind.{Kind}
 use Rattle.card.specs.declared.object.Kind.TheVariants.{Signed, Unsigned, Fingers, Picture}
 use Rattle.card.specs.declared.object.Row.{Row}
 use Rattle.card.specs.declared.object.Part.{Part}
-use Rattle.card.specs.declared.object.Field.{Field}
 use Rattle.card.proofs.TlvLaws.{header_empty, place_inside, after_place_lem, value_length}
 use Rattle.card.proofs.EncoderLaws.{form_read, read_back, read_back_value, written_back}
 use Rattle.card.proofs.FieldLaws.{field_cases, field_found}

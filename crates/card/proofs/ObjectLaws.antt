@@ -11,15 +11,14 @@ use borrow.Author.Tests.{leb-true, eqb-true}
 use lib.Dec.{eqb, leb}
 use lib.ListN.{length, take, drop, replicate, length-drop}
 use lib.Seq.{take-append-le, drop-append-le}
-use Rattle.card.specs.Tlv.{header_of, only_of}
-use Rattle.card.specs.Object.{data_object_tag, fascn_tag, guid_tag, expiry_tag, signature_tag, biometric_tag, most_fields, required, optional, empty, rows_of, row_field, fields_from, fields_answer, object_from, object_of, part_in, bytes_at, field_part, field_value, allowed, row_in}
+use Rattle.card.specs.Tlv.{header_of, only_of, header}
+use Rattle.card.specs.Object.{Field, data_object_tag, fascn_tag, guid_tag, expiry_tag, signature_tag, biometric_tag, most_fields, required, optional, empty, rows_of, row_field, fields_from, fields_answer, object_from, object_of, part_in, bytes_at, field_part, field_value, allowed, row_in}
 use Rattle.card.specs.declared.tlv.Header.{Header}
-use Rattle.card.specs.declared.tlv.Header.TheVariants.{Whole, Malformed}
+use Rattle.std.specs.Prelude.{Option, Some, None}
 use Rattle.card.specs.declared.object.Kind.{Kind}
 use Rattle.card.specs.declared.object.Kind.TheVariants.{Signed, Unsigned, Fingers, Picture}
 use Rattle.card.specs.declared.object.Row.{Row}
 use Rattle.card.specs.declared.object.Part.{Part}
-use Rattle.card.specs.declared.object.Field.{Field}
 use Rattle.card.proofs.TlvLaws.{place_inside, value_length, header_start, only_is}
 use Rattle.card.proofs.FieldLaws.{field_cases}
 
@@ -63,7 +62,7 @@ answer_inside n true ps i = inside_append n ps (replicate (most_fields - length 
 answer_inside n false ps i = inside_empty most_fields n
 
 -- the value of the one TLV that a list is ends where the list ends
-value_end : (s : List ℕ) {tag start len : ℕ} {nested : Bool} → Whole tag nested start len ≡ only_of data_object_tag s → start + length (take len (drop start s)) ≡ length s
+value_end : (s : List ℕ) {tag start len : ℕ} {nested : Bool} → Some (header tag nested start len) ≡ only_of data_object_tag s → start + length (take len (drop start s)) ≡ length s
 value_end s e =
     let i = only_is data_object_tag s e in
     omega (arith, i.2, value_length s i.0)
@@ -73,20 +72,20 @@ pub parts_inside_lem : (k : Kind) (s : List ℕ) → AllInside (length s) (objec
 unfolding object_of object_from fields_answer
 parts_inside_lem k s = by_header (only_of data_object_tag s) refl
   where
-    by_header : (h : Header) → h ≡ only_of data_object_tag s → AllInside (length s) (object_from h k s).1
-    by_header Malformed e = inside_empty most_fields (length s)
-    by_header (Whole tag nested start len) e =
-        let v = take len (drop start s) in
-        let f = fields_from v start (rows_of k) 0 in
+    by_header : (h : Option Header) → h ≡ only_of data_object_tag s → AllInside (length s) (object_from h k s).1
+    by_header None e = inside_empty most_fields (length s)
+    by_header (Some h) e =
+        let v = take h.len (drop h.start s) in
+        let f = fields_from v h.start (rows_of k) 0 in
         subst (λ (n : ℕ). AllInside n (fields_answer f).1) (value_end s e)
-        (answer_inside (start + length v) f.0 f.1 (fields_inside v start (rows_of k) 0 (omega arith)))
+        (answer_inside (h.start + length v) f.0 f.1 (fields_inside v h.start (rows_of k) 0 (omega arith)))
 
 -- and so does the part of the field with a tag
 part_inside_of : (n : ℕ) (rs : List Row) (ps : List Part) (tag : ℕ) → AllInside n ps → Inside n (part_in rs ps tag)
 unfolding part_in
 part_inside_of n [] ps tag i = omega arith
 part_inside_of n (r ∷ rs) [] tag i = omega arith
-part_inside_of n (r ∷ rs) (p ∷ ps) tag i = by_tag (eqb r.0 tag) (part_inside_of n rs ps tag i.1)
+part_inside_of n (r ∷ rs) (p ∷ ps) tag i = by_tag (eqb r.tag tag) (part_inside_of n rs ps tag i.1)
   where
     by_tag : (k : Bool) → Inside n (part_in rs ps tag) → Inside n (cond k p (part_in rs ps tag))
     by_tag true later = i.0
@@ -116,7 +115,7 @@ pub record Good (k : Kind) (s : List ℕ) : Type 0 where
   pub nested : Bool
   pub start : ℕ
   pub len : ℕ
-  pub whole : Whole data_object_tag nested start len ≡ header_of s
+  pub whole : Some (header data_object_tag nested start len) ≡ header_of s
   pub ends : start + len ≡ length s
   pub fields : (fields_from (take len (drop start s)) start (rows_of k) 0).0 ≡ true
   pub filler : List Part
@@ -133,21 +132,21 @@ pub good : (k : Kind) (s : List ℕ) → (object_of k s).0 ≡ 0 → Good k s
 unfolding object_of object_from fields_answer
 good k s p = by_header (only_of data_object_tag s) refl p
   where
-    by_header : (h : Header) → h ≡ only_of data_object_tag s → (object_from h k s).0 ≡ 0 → Good k s
-    by_header Malformed e q = absurd (omega arith)
-    by_header (Whole tag nest at n) e q =
+    by_header : (h : Option Header) → h ≡ only_of data_object_tag s → (object_from h k s).0 ≡ 0 → Good k s
+    by_header None e q = absurd (omega arith)
+    by_header (Some h) e q =
         let i = only_is data_object_tag s e in
-        let f = fields_from (take n (drop at s)) at (rows_of k) 0 in
+        let f = fields_from (take h.len (drop h.start s)) h.start (rows_of k) 0 in
         let a = answered f.0 f.1 q in
         record {
-          nested = nest;
-          start = at;
-          len = n;
+          nested = h.nested;
+          start = h.start;
+          len = h.len;
           whole = rw (← i.1) i.0;
           ends = i.2;
           fields = a.0;
           filler = replicate (most_fields - length f.1) empty;
-          parts = ap (λ (h : Header). (object_from h k s).1) (sym e) ∙ a.1;
+          parts = ap (λ (x : Option Header). (object_from x k s).1) (sym e) ∙ a.1;
         }
 
 -- a good object is not empty
@@ -158,7 +157,7 @@ object_not_empty k s p = let g = good k s p in omega (arith, g.ends, header_star
 field_allowed : (v : List ℕ) (base : ℕ) (r : Row) (at : ℕ) → (row_field v base r at).ok ≡ true → allowed r (row_field v base r at).part.len ≡ true
 field_allowed v base r at =
     field_cases v base r at (λ (f : Field). f.ok ≡ true → allowed r f.part.len ≡ true)
-    (λ (o : r.3 ≡ true). rw o (or-true (leb r.1 0 && leb 0 r.2))) (λ tag start len nested e k o. rw o)
+    (λ (o : r.optional ≡ true). rw o (or-true (leb r.least 0 && leb 0 r.most))) (λ tag start len nested e k o. rw o)
 
 -- the same of the row with a tag, among the rows from a place on
 fields_allowed : (v : List ℕ) (base : ℕ) (rs : List Row) (at tag : ℕ) (more : List Part) → (fields_from v base rs at).0 ≡ true
@@ -169,7 +168,7 @@ fields_allowed v base (r ∷ rs) at tag more o =
     let f = row_field v base r at in
     let after = fields_from v base rs f.next in
     let p = (and-eq-true_iff f.ok after.0).0 o in
-    by_tag (eqb r.0 tag) (field_allowed v base r at p.0) (fields_allowed v base rs f.next tag more p.1)
+    by_tag (eqb r.tag tag) (field_allowed v base r at p.0) (fields_allowed v base rs f.next tag more p.1)
   where
     by_tag : (k : Bool) → let f = row_field v base r at in let q = part_in rs ((fields_from v base rs f.next).1 ++ more) tag in
         allowed r f.part.len ≡ true → allowed (row_in rs tag) q.len ≡ true → allowed (cond k r (row_in rs tag)) (cond k f.part q).len ≡ true

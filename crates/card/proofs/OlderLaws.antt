@@ -62,7 +62,7 @@ made_most no_rows = omega arith
 made_most (left_out o m) = let later = made_most m in omega arith
 made_most (given {r} {v = v} form value low high fits m) =
     let later = made_most m in
-    omega (arith, length-append (encoded form r.0 value) v, encoded-length form r.0 value fits, tag_small r.0, form_small form (length value) fits)
+    omega (arith, length-append (encoded form r.tag value) v, encoded-length form r.tag value fits, tag_small r.tag, form_small form (length value) fits)
 
 -- so the longest form of a length has room for it
 pub made_fits : (k : Kind) {v : List ℕ} {values : List (List ℕ)} → Made (rows_of k) v values → fits_form 3 (length v) ≡ true
@@ -90,7 +90,7 @@ record FirstField (r : Row) (rs : List Row) (values : List (List ℕ)) : Type 0 
 first_field : {r : Row} {rs : List Row} {v : List ℕ} {values : List (List ℕ)} → Made (r ∷ rs) v values → FirstField r rs values
 first_field (left_out {v = v} {values} o m) = record { value = []; later = values; these = refl; rest = v; made = m; again = λ w others q. (w, left_out o q) }
 first_field (given {r} {v = v} {values} form value low high fits m) =
-    record { value = value; later = values; these = refl; rest = v; made = m; again = λ w others q. (encoded form r.0 value ++ w, given form value low high fits q) }
+    record { value = value; later = values; these = refl; rest = v; made = m; again = λ w others q. (encoded form r.tag value ++ w, given form value low high fits q) }
 
 -- an element with n bytes is given or left out before what is made for the rows after it
 chosen : (tag n : ℕ) → n < 128 → (value : List ℕ) → LengthOrNone n (length value) → {rs : List Row} {v : List ℕ} {values : List (List ℕ)} → Made rs v values

@@ -4,19 +4,18 @@ use mathlib.Core.Path.{◌≡◌, refl, sym, ap, ◌∙◌}
 use mathlib.Core.Bool.{Bool, true, false, cond, not, ◌&&◌, ◌||◌, and-true, and-false}
 use mathlib.Core.List.{List, [], ◌∷◌}
 use Prim.Native.Nat.{ℕ, zero, suc, ◌+◌, ◌-◌, ◌≤◌, ◌<◌}
-use native.Mathlib.Nat.{add-sub_cancel_left}
 use native.Mathlib.Omega.{arith}
 use borrow.Author.Tests.{eq-eqb, ne_eqb}
 use lib.Dec.{eqb, leb}
 use lib.ListN.{length, take, drop, length-drop}
-use lib.Seq.{drop-drop}
-use Rattle.card.specs.Tlv.{header_of, only_from, only_of}
+use Rattle.card.specs.Tlv.{header_of, only_from, only_of, header}
 use Rattle.card.specs.Template.{aid_tag, held_least, held_most, Tlv, tlv, broken, tlvs_from, tlvs_of, every, whole_to, lengths_of, just_one, good_value, good_from, template_of}
-use Rattle.card.specs.TemplateCode.{noted, noted_all, walked}
+use Rattle.card.specs.TemplateCode.{one_more_aid, noted, noted_all, walked}
 use Rattle.card.specs.declared.tlv.Header.{Header}
-use Rattle.card.specs.declared.tlv.Header.TheVariants.{Whole, Malformed}
-use Rattle.card.specs.declared.template.Walked.{Walked}
-use Rattle.card.proofs.TlvLaws.{header_empty, header_inside, header_start, after_place_lem, value_length}
+use Rattle.std.specs.Prelude.{Option, Some, None}
+use Rattle.card.specs.declared.template.Aids.{Aids}
+use Rattle.card.specs.declared.template.Aids.TheVariants.{Absent, JustOne, Others}
+use Rattle.card.proofs.TlvLaws.{header_empty, header_inside, header_start, value_length}
 
 -- ---- the TLVs of a list
 
@@ -31,26 +30,26 @@ unfolding tlvs_of
 tlvs_end s e = from_none (length s) s e
 
 -- bytes that are no TLV
-from_broken : (n : ℕ) (s : List ℕ) → 0 < length s → Malformed ≡ header_of s → tlvs_from (suc n) s ≡ broken ∷ []
+from_broken : (n : ℕ) (s : List ℕ) → 0 < length s → None ≡ header_of s → tlvs_from (suc n) s ≡ broken ∷ []
 unfolding tlvs_from
 from_broken n s h e = let k : length s ≡ 0 → ⊥ = λ z. omega arith in rw (ne_eqb _ _ k, ← e)
 
 -- a TLV, and what follows it
-from_whole : (n : ℕ) (s : List ℕ) {tag start len : ℕ} {nested : Bool} → Whole tag nested start len ≡ header_of s
+from_whole : (n : ℕ) (s : List ℕ) {tag start len : ℕ} {nested : Bool} → Some (header tag nested start len) ≡ header_of s
     → tlvs_from (suc n) s ≡ tlv tag nested (take len (drop start s)) ∷ tlvs_from n (drop (start + len) s)
 unfolding tlvs_from
 from_whole n s e = let k : length s ≡ 0 → ⊥ = λ z. omega (arith, header_inside s e, header_start s e) in rw (ne_eqb _ _ k, ← e)
 
 -- what is left is shorter
-left_shorter : (s : List ℕ) {tag start len : ℕ} {nested : Bool} → Whole tag nested start len ≡ header_of s → length (drop (start + len) s) < length s
+left_shorter : (s : List ℕ) {tag start len : ℕ} {nested : Bool} → Some (header tag nested start len) ≡ header_of s → length (drop (start + len) s) < length s
 left_shorter s {start = start} {len} e = omega (arith, length-drop (start + len) s, header_inside s e, header_start s e)
 
 -- two counts of steps agree where they agree on what is left
-step : (h : Header) (n m : ℕ) (s : List ℕ) → h ≡ header_of s → ((s' : List ℕ) → length s' < length s → tlvs_from n s' ≡ tlvs_from m s')
+step : (h : Option Header) (n m : ℕ) (s : List ℕ) → h ≡ header_of s → ((s' : List ℕ) → length s' < length s → tlvs_from n s' ≡ tlvs_from m s')
     → tlvs_from (suc n) s ≡ tlvs_from (suc m) s
 unfolding tlvs_from
-step Malformed n m s e same = rw (← e)
-step (Whole tag nested start len) n m s e same = rw (← e, same (drop (start + len) s) (left_shorter s e))
+step None n m s e same = rw (← e)
+step (Some h) n m s e same = rw (← e, same (drop (h.start + h.len) s) (left_shorter s e))
 
 -- as many steps as there are bytes are enough
 steps : (n m : ℕ) (s : List ℕ) → length s ≤ n → length s ≤ m → tlvs_from n s ≡ tlvs_from m s
@@ -63,12 +62,12 @@ one_more : (n : ℕ) → 0 < n → n ≡ suc (n - 1)
 one_more n h = omega arith
 
 -- the same of all steps: bytes that are no TLV
-pub tlvs_broken : (s : List ℕ) → 0 < length s → Malformed ≡ header_of s → tlvs_of s ≡ broken ∷ []
+pub tlvs_broken : (s : List ℕ) → 0 < length s → None ≡ header_of s → tlvs_of s ≡ broken ∷ []
 unfolding tlvs_of
 tlvs_broken s h e = ap (λ (n : ℕ). tlvs_from n s) (one_more (length s) h) ∙ from_broken (length s - 1) s h e
 
 -- and a TLV, and what follows it
-pub tlvs_whole : (s : List ℕ) {tag start len : ℕ} {nested : Bool} → Whole tag nested start len ≡ header_of s
+pub tlvs_whole : (s : List ℕ) {tag start len : ℕ} {nested : Bool} → Some (header tag nested start len) ≡ header_of s
     → tlvs_of s ≡ tlv tag nested (take len (drop start s)) ∷ tlvs_of (drop (start + len) s)
 unfolding tlvs_of
 tlvs_whole s {tag} {start} {len} {nested} e =
@@ -85,18 +84,18 @@ whole_end zero s e = eq-eqb _ _ e
 whole_end (suc d) s e = rw (tlvs_end s e)
 
 -- bytes that are no TLV are not
-pub whole_broken : (d : ℕ) (s : List ℕ) → 0 < length s → Malformed ≡ header_of s → whole_to (suc d) s ≡ false
+pub whole_broken : (d : ℕ) (s : List ℕ) → 0 < length s → None ≡ header_of s → whole_to (suc d) s ≡ false
 unfolding whole_to every
 whole_broken d s h e = rw (tlvs_broken s h e)
 
 -- a TLV, and what follows it
-pub whole_step : (d : ℕ) (s : List ℕ) {tag start len : ℕ} {nested : Bool} → Whole tag nested start len ≡ header_of s
+pub whole_step : (d : ℕ) (s : List ℕ) {tag start len : ℕ} {nested : Bool} → Some (header tag nested start len) ≡ header_of s
     → whole_to (suc d) s ≡ (not nested || whole_to d (take len (drop start s))) && whole_to (suc d) (drop (start + len) s)
 unfolding whole_to every
 whole_step d s e = rw (tlvs_whole s e)
 
 -- the same at a depth that is not 0
-whole_next : (d : ℕ) (s : List ℕ) {tag start len : ℕ} {nested : Bool} → (d ≡ 0 → ⊥) → Whole tag nested start len ≡ header_of s
+whole_next : (d : ℕ) (s : List ℕ) {tag start len : ℕ} {nested : Bool} → (d ≡ 0 → ⊥) → Some (header tag nested start len) ≡ header_of s
     → whole_to d s ≡ (not nested || whole_to (d - 1) (take len (drop start s))) && whole_to d (drop (start + len) s)
 whole_next zero s m e = absurd (m refl)
 whole_next (suc d) s m e = let k : suc d - 1 ≡ d = omega arith in rw k (whole_step d s e)
@@ -104,16 +103,22 @@ whole_next (suc d) s m e = let k : suc d - 1 ≡ d = omega arith in rw k (whole_
 -- ---- just one 4F
 
 -- a test that picks between two of the same
-stays : (k : Bool) (x : ℕ) → cond k x x ≡ x
+stays : {A : Type 0} (k : Bool) (x : A) → cond k x x ≡ x
 stays true x = refl
 stays false x = refl
 
+-- the 4Fs are just one
+abbrev pub is_one : Aids → Bool
+is_one Absent = false
+is_one JustOne = true
+is_one Others = false
+
 -- after others than one good 4F nothing changes
-noted_two : (ts : List Tlv) → noted_all 2 ts ≡ 2
-unfolding noted_all noted
-noted_two [] = refl
-noted_two (broken ∷ ts) = noted_two ts
-noted_two (tlv tag nested value ∷ ts) = rw (stays (eqb tag aid_tag) 2) (noted_two ts)
+noted_others : (ts : List Tlv) → noted_all Others ts ≡ Others
+unfolding noted_all noted one_more_aid
+noted_others [] = refl
+noted_others (broken ∷ ts) = noted_others ts
+noted_others (tlv tag nested value ∷ ts) = rw (stays (eqb tag aid_tag) Others) (noted_others ts)
 
 -- no length
 abbrev none : List ℕ → Bool
@@ -121,15 +126,15 @@ none [] = true
 none (n ∷ ns) = false
 
 -- after one, none may follow
-noted_one : (ts : List Tlv) → eqb (noted_all 1 ts) 1 ≡ none (lengths_of aid_tag ts)
-unfolding noted_all noted lengths_of
+noted_one : (ts : List Tlv) → is_one (noted_all JustOne ts) ≡ none (lengths_of aid_tag ts)
+unfolding noted_all noted one_more_aid lengths_of
 noted_one [] = refl
 noted_one (broken ∷ ts) = noted_one ts
 noted_one (tlv tag nested value ∷ ts) = by_tag (eqb tag aid_tag) (noted_one ts)
   where
-    by_tag : (k : Bool) → eqb (noted_all 1 ts) 1 ≡ none (lengths_of aid_tag ts)
-        → eqb (noted_all (cond k 2 1) ts) 1 ≡ none (cond k (length value ∷ lengths_of aid_tag ts) (lengths_of aid_tag ts))
-    by_tag true p = rw (noted_two ts)
+    by_tag : (k : Bool) → is_one (noted_all JustOne ts) ≡ none (lengths_of aid_tag ts)
+        → is_one (noted_all (cond k Others JustOne) ts) ≡ none (cond k (length value ∷ lengths_of aid_tag ts) (lengths_of aid_tag ts))
+    by_tag true p = rw (noted_others ts)
     by_tag false p = p
 
 -- just one: the first is good, and none follows
@@ -138,77 +143,67 @@ unfolding just_one
 just_cons n [] = sym (and-true (leb held_least n && leb n held_most))
 just_cons n (m ∷ ns) = sym (and-false (leb held_least n && leb n held_most))
 
--- from the start: what the code notes is 1 exactly where there is just one, of 1 to 16 bytes
-pub noted_none : (ts : List Tlv) → eqb (noted_all 0 ts) 1 ≡ just_one (lengths_of aid_tag ts)
-unfolding noted_all noted lengths_of just_one
+-- from the start: what the code notes is just one exactly where there is just one, of 1 to 16 bytes
+pub noted_none : (ts : List Tlv) → is_one (noted_all Absent ts) ≡ just_one (lengths_of aid_tag ts)
+unfolding noted_all noted one_more_aid lengths_of just_one
 noted_none [] = refl
 noted_none (broken ∷ ts) = noted_none ts
 noted_none (tlv tag nested value ∷ ts) = by_tag (eqb tag aid_tag) (noted_none ts)
   where
-    by_length : (k : Bool) → eqb (noted_all (cond k 1 2) ts) 1 ≡ k && none (lengths_of aid_tag ts)
+    by_length : (k : Bool) → is_one (noted_all (cond k JustOne Others) ts) ≡ k && none (lengths_of aid_tag ts)
     by_length true = noted_one ts
-    by_length false = rw (noted_two ts)
+    by_length false = rw (noted_others ts)
 
-    by_tag : (k : Bool) → eqb (noted_all 0 ts) 1 ≡ just_one (lengths_of aid_tag ts)
-        → eqb (noted_all (cond k (cond (leb held_least (length value) && leb (length value) held_most) 1 2) 0) ts) 1 ≡ just_one (cond k (length value ∷ lengths_of aid_tag ts) (lengths_of aid_tag ts))
+    by_tag : (k : Bool) → is_one (noted_all Absent ts) ≡ just_one (lengths_of aid_tag ts)
+        → is_one (noted_all (cond k (cond (leb held_least (length value) && leb (length value) held_most) JustOne Others) Absent) ts) ≡ just_one (cond k (length value ∷ lengths_of aid_tag ts) (lengths_of aid_tag ts))
     by_tag true p = by_length (leb held_least (length value) && leb (length value) held_most) ∙ sym (just_cons (length value) (lengths_of aid_tag ts))
     by_tag false p = p
 
 -- ---- the walk
 
--- what a walk finds where the bytes are not whole TLVs
-abbrev pub none_found : Walked
-none_found = record { whole = false; aids = 0 }
-
--- so it is
-walked_broken : (d n : ℕ) (s : List ℕ) → whole_to d s ≡ false → walked d n s ≡ none_found
+-- what is not whole TLVs
+walked_broken : (d : ℕ) (n : Aids) (s : List ℕ) → whole_to d s ≡ false → walked d n s ≡ None
 unfolding walked
 walked_broken d n s e = rw e
 
--- the bytes from place at on, in the code's terms
-module _ (s : List ℕ) (d n at : ℕ) where
-  -- nothing is left
-  pub walk_end : at ≡ length s → walked d n (drop at s) ≡ record { whole = true; aids = n }
+-- the bytes that are left, in the code's terms
+module _ (d : ℕ) (n : Aids) (s : List ℕ) where
+  -- none
+  pub walk_end : length s ≡ 0 → walked d n s ≡ Some n
   unfolding walked noted_all
-  walk_end h = let e : length (drop at s) ≡ 0 = omega (arith, length-drop at s) in rw (whole_end d (drop at s) e, tlvs_end (drop at s) e)
+  walk_end e = rw (whole_end d s e, tlvs_end s e)
 
   -- a TLV below the last level
-  pub walk_deep : at < length s → d ≡ 0 → walked d n (drop at s) ≡ none_found
+  pub walk_deep : 0 < length s → d ≡ 0 → walked d n s ≡ None
   unfolding whole_to
   walk_deep h e =
-      let k : length (drop at s) ≡ 0 → ⊥ = λ z. omega (arith, length-drop at s) in
-      walked_broken d n (drop at s) (rw e (ne_eqb _ _ k))
+      let k : length s ≡ 0 → ⊥ = λ z. omega arith in
+      walked_broken d n s (rw e (ne_eqb _ _ k))
 
-  module _ (h : at < length s) (m : d ≡ 0 → ⊥) where
+  module _ (h : 0 < length s) (m : d ≡ 0 → ⊥) where
     -- bytes that are no TLV
-    pub walk_bad : Malformed ≡ header_of (drop at s) → walked d n (drop at s) ≡ none_found
-    walk_bad e = walked_broken d n (drop at s) (rw (one_more d (omega (arith, m))) (whole_broken (d - 1) (drop at s) (omega (arith, length-drop at s)) e))
+    pub walk_bad : None ≡ header_of s → walked d n s ≡ None
+    walk_bad e = walked_broken d n s (rw (one_more d (omega (arith, m))) (whole_broken (d - 1) s h e))
 
-    module _ {tag start len : ℕ} {nested : Bool} (e : Whole tag nested start len ≡ header_of (drop at s)) where
-      -- its value
-      inner_is : take len (drop start (drop at s)) ≡ take (at + start + len - (at + start)) (drop (at + start) s)
-      inner_is = rw (drop-drop, add-sub_cancel_left)
-
+    module _ {tag start len : ℕ} {nested : Bool} (e : Some (header tag nested start len) ≡ header_of s) where
       -- it and what follows it are whole TLVs; the 4Fs noted
-      whole_is : whole_to d (drop at s)
-          ≡ (not nested || whole_to (d - 1) (take (at + start + len - (at + start)) (drop (at + start) s))) && whole_to d (drop (at + start + len) s)
-      whole_is = rw (← inner_is, ← after_place_lem s at start len) (whole_next d (drop at s) m e)
+      whole_is : whole_to d s ≡ (not nested || whole_to (d - 1) (take len (drop start s))) && whole_to d (drop (start + len) s)
+      whole_is = whole_next d s m e
 
-      noted_is : noted_all n (tlvs_of (drop at s)) ≡ noted_all (noted n tag len) (tlvs_of (drop (at + start + len) s))
+      noted_is : noted_all n (tlvs_of s) ≡ noted_all (noted n tag len) (tlvs_of (drop (start + len) s))
       unfolding noted_all
       noted_is =
-          ap (noted_all n) (tlvs_whole (drop at s) e)
-          ∙ rw (after_place_lem s at start len) (ap (λ (x : ℕ). noted_all (noted n tag x) (tlvs_of (drop (at + start + len) s))) (value_length (drop at s) e))
+          ap (noted_all n) (tlvs_whole s e) ∙ ap (λ (x : ℕ). noted_all (noted n tag x) (tlvs_of (drop (start + len) s))) (value_length s e)
 
       -- it is plain, or its value is whole TLVs to the levels left
-      pub walk_past : (not nested || whole_to (d - 1) (take (at + start + len - (at + start)) (drop (at + start) s))) ≡ true
-          → walked d n (drop at s) ≡ walked d (noted n tag len) (drop (at + start + len) s)
+      pub walk_past : (not nested || whole_to (d - 1) (take len (drop start s))) ≡ true
+          → walked d n s ≡ walked d (noted n tag len) (drop (start + len) s)
       unfolding walked
-      walk_past k = rw (noted_is, whole_is, k)
+      walk_past k = rw (whole_is, k, noted_is)
 
       -- its value is not
-      pub walk_broken : (not nested || whole_to (d - 1) (take (at + start + len - (at + start)) (drop (at + start) s))) ≡ false → walked d n (drop at s) ≡ none_found
-      walk_broken k = walked_broken d n (drop at s) (rw (whole_is, k))
+      pub walk_broken : (not nested || whole_to (d - 1) (take len (drop start s))) ≡ false → walked d n s ≡ None
+      walk_broken k = walked_broken d n s (rw (whole_is, k))
 
 -- what the walk over a nested value says of it
 module _ (d : ℕ) (v : List ℕ) {nested : Bool} where
@@ -217,21 +212,34 @@ module _ (d : ℕ) (v : List ℕ) {nested : Bool} where
   plain_passes k = rw k
 
   -- it is whole
-  pub nested_passes : {w : Walked} → nested ≡ true → w ≡ walked d 0 v → w.whole ≡ true → (not nested || whole_to d v) ≡ true
+  pub nested_passes : {w : Option Aids} {aids : Aids} → nested ≡ true → w ≡ walked d Absent v → w ≡ Some aids → (not nested || whole_to d v) ≡ true
   unfolding walked
-  nested_passes k e p = rw k (sym (ap (λ (x : Walked). x.whole) e) ∙ p)
+  nested_passes {w} {aids} k e p = rw k (by_whole (whole_to d v) (sym p ∙ e))
+    where
+      by_whole : (x : Bool) → Some aids ≡ cond x (Some (noted_all Absent (tlvs_of v))) None → x ≡ true
+      by_whole true q = refl
+      by_whole false q = let h : ◌≡◌ {A = ℕ} 0 1 = cc in absurd (omega arith)
 
   -- it is not
-  pub nested_fails : {w : Walked} → nested ≡ true → w ≡ walked d 0 v → w.whole ≡ false → (not nested || whole_to d v) ≡ false
+  pub nested_fails : {w : Option Aids} → nested ≡ true → w ≡ walked d Absent v → w ≡ None → (not nested || whole_to d v) ≡ false
   unfolding walked
-  nested_fails k e p = rw k (sym (ap (λ (x : Walked). x.whole) e) ∙ p)
+  nested_fails {w} k e p = rw k (by_whole (whole_to d v) (sym p ∙ e))
+    where
+      by_whole : (x : Bool) → None ≡ cond x (Some (noted_all Absent (tlvs_of v))) None → x ≡ false
+      by_whole true q = let h : ◌≡◌ {A = ℕ} 0 1 = cc in absurd (omega arith)
+      by_whole false q = refl
 
--- what the walk over the value of 61 finds decides
-pub good_is : (v : List ℕ) {w : Walked} → w ≡ walked 3 0 v → good_value v ≡ w.whole && eqb w.aids 1
+-- the walk found just one 4F
+abbrev pub found_one : Option Aids → Bool
+found_one None = false
+found_one (Some n) = is_one n
+
+-- that decides of the value of 61
+pub good_is : (v : List ℕ) {w : Option Aids} → w ≡ walked 3 Absent v → good_value v ≡ found_one w
 unfolding good_value walked
 good_is v e = rw e (by_whole (whole_to 3 v))
   where
-    by_whole : (k : Bool) → k && just_one (lengths_of aid_tag (tlvs_of v)) ≡ k && eqb (cond k (noted_all 0 (tlvs_of v)) 0) 1
+    by_whole : (k : Bool) → k && just_one (lengths_of aid_tag (tlvs_of v)) ≡ found_one (cond k (Some (noted_all Absent (tlvs_of v))) None)
     by_whole true = sym (noted_none (tlvs_of v))
     by_whole false = refl
 

@@ -11,9 +11,9 @@ use borrow.Author.Tests.{eqb-true, ltb-false, eqb-false, le-ltb, ne_eqb}
 use lib.ListN.{length, get_or, take, drop, length-append, length-drop, get_or-append}
 use lib.Seq.{drop-drop, length-take-le}
 use lib.Dec.{ltb, eqb}
-use Rattle.card.specs.Tlv.{tag_size, tag_number, nested_bit, length_size, length_of, ending_of, after_tag, header_of, only_from, only_of}
+use Rattle.card.specs.Tlv.{tag_size, tag_number, nested_bit, length_size, length_of, ending_of, after_tag, header_of, only_from, only_of, header}
 use Rattle.card.specs.declared.tlv.Header.{Header}
-use Rattle.card.specs.declared.tlv.Header.TheVariants.{Whole, Malformed}
+use Rattle.std.specs.Prelude.{Option, Some, None, Ok, Err, ok_or}
 
 -- ---- the parts of a header
 
@@ -33,22 +33,24 @@ pub record Parts (s : List ℕ) (t l tag : ℕ) (nested : Bool) (len : ℕ) : Ty
   pub inside : t + l + len ≤ length s
 
 -- so its header is whole
-pub whole : (s : List ℕ) (t l : ℕ) {tag len : ℕ} {nested : Bool} → Parts s t l tag nested len → header_of s ≡ Whole tag nested (t + l) len
+pub whole : (s : List ℕ) (t l : ℕ) {tag len : ℕ} {nested : Bool} → Parts s t l tag nested len → header_of s ≡ Some (header tag nested (t + l) len)
 unfolding header_of after_tag ending_of
 whole s t l {tag} {len} {nested} p =
     simp (p.size, p.number, p.bit, p.form, p.count, ne_eqb t 0 (omega arith), ne_eqb l 0 (omega arith), le-ltb (length s) (t + l + len) p.inside)
 
 -- a whole TLV has passed the three tests
 picked : (x y z : Bool) (tag' : ℕ) (k' : Bool) (start' len' : ℕ) {tag start len : ℕ} {k : Bool}
-    → Whole tag k start len ≡ cond x Malformed (cond y Malformed (cond z Malformed (Whole tag' k' start' len')))
+    → Some (header tag k start len) ≡ cond x None (cond y None (cond z None (Some (header tag' k' start' len'))))
     → (x ≡ false) × (y ≡ false) × (z ≡ false) × (tag' ≡ tag) × (k' ≡ k) × (start' ≡ start) × (len' ≡ len)
 picked true y z tag' k' start' len' e = let h : ◌≡◌ {A = ℕ} 0 1 = cc in absurd (omega arith)
 picked false true z tag' k' start' len' e = let h : ◌≡◌ {A = ℕ} 0 1 = cc in absurd (omega arith)
 picked false false true tag' k' start' len' e = let h : ◌≡◌ {A = ℕ} 0 1 = cc in absurd (omega arith)
-picked false false false tag' k' start' len' e = (refl, refl, refl, (cc), (cc), (cc), (cc))
+picked false false false tag' k' start' len' {tag} {start} {len} {k} e =
+    let same : header tag' k' start' len' ≡ header tag k start len = cc in
+    (refl, refl, refl, ap (λ (h : Header). h.tag) same, ap (λ (h : Header). h.nested) same, ap (λ (h : Header). h.start) same, ap (λ (h : Header). h.len) same)
 
 -- and the other way: a header that is whole has these parts
-pub parts : (s : List ℕ) {tag start len : ℕ} {nested : Bool} → Whole tag nested start len ≡ header_of s
+pub parts : (s : List ℕ) {tag start len : ℕ} {nested : Bool} → Some (header tag nested start len) ≡ header_of s
     → (of_three tag_size s + length_size (get_or s (of_three tag_size s) 0) ≡ start)
     × Parts s (of_three tag_size s) (length_size (get_or s (of_three tag_size s) 0)) tag nested len
 unfolding header_of after_tag ending_of
@@ -73,16 +75,16 @@ parts s {tag} {start} {len} {nested} e =
 -- ---- where a TLV lies
 
 -- no bytes are no TLV
-pub header_empty : header_of [] ≡ Malformed
+pub header_empty : header_of [] ≡ None
 unfolding header_of after_tag ending_of tag_size length_size length_of
 header_empty = refl
 
 -- it ends within the list
-pub header_inside : (s : List ℕ) {tag start len : ℕ} {nested : Bool} → Whole tag nested start len ≡ header_of s → start + len ≤ length s
+pub header_inside : (s : List ℕ) {tag start len : ℕ} {nested : Bool} → Some (header tag nested start len) ≡ header_of s → start + len ≤ length s
 header_inside s e = let p = parts s e in omega arith
 
 -- and so does the TLV at a place of the list
-pub place_inside : (s : List ℕ) (at : ℕ) {tag start len : ℕ} {nested : Bool} → Whole tag nested start len ≡ header_of (drop at s) → at ≤ length s → at + start + len ≤ length s
+pub place_inside : (s : List ℕ) (at : ℕ) {tag start len : ℕ} {nested : Bool} → Some (header tag nested start len) ≡ header_of (drop at s) → at ≤ length s → at + start + len ≤ length s
 place_inside s at e h = omega (arith, header_inside (drop at s) e, length-drop at s)
 
 -- what stands after it there
@@ -90,15 +92,15 @@ pub after_place_lem : (s : List ℕ) (at start len : ℕ) → drop (start + len)
 after_place_lem s at start len = rw (drop-drop, add_assoc)
 
 -- its value has as many bytes as the length says
-pub value_length : (s : List ℕ) {tag start len : ℕ} {nested : Bool} → Whole tag nested start len ≡ header_of s → length (take len (drop start s)) ≡ len
+pub value_length : (s : List ℕ) {tag start len : ℕ} {nested : Bool} → Some (header tag nested start len) ≡ header_of s → length (take len (drop start s)) ≡ len
 value_length s {start = start} {len} e = length-take-le len (drop start s) (omega (arith, header_inside s e, length-drop start s))
 
 -- its value has a tag byte and a length byte at least before it
-pub header_two : (s : List ℕ) {tag start len : ℕ} {nested : Bool} → Whole tag nested start len ≡ header_of s → 1 < start
+pub header_two : (s : List ℕ) {tag start len : ℕ} {nested : Bool} → Some (header tag nested start len) ≡ header_of s → 1 < start
 header_two s e = let p = parts s e in omega arith
 
 -- so a walk over TLVs goes on
-pub header_start : (s : List ℕ) {tag start len : ℕ} {nested : Bool} → Whole tag nested start len ≡ header_of s → 0 < start
+pub header_start : (s : List ℕ) {tag start len : ℕ} {nested : Bool} → Some (header tag nested start len) ≡ header_of s → 0 < start
 header_start s e = let h = header_two s e in omega arith
 
 -- ---- the three sizes of a tag and of a length
@@ -118,7 +120,7 @@ tag_cases a b c P u v w h = go (eqb (a % 32) 31) (ltb b 128) (ltb c 128) refl re
     go true false false p q r = absurd (omega (arith, simp (p, q, r) at h))
 
 -- a tag below 256 is its first byte
-pub first_byte : (s : List ℕ) {tag start len : ℕ} {nested : Bool} → Whole tag nested start len ≡ header_of s → tag < 256 → tag ≡ get_or s 0 0
+pub first_byte : (s : List ℕ) {tag start len : ℕ} {nested : Bool} → Some (header tag nested start len) ≡ header_of s → tag < 256 → tag ≡ get_or s 0 0
 first_byte s {tag} e small =
     let p = (parts s e).1 in
     let a = get_or s 0 0 in
@@ -158,8 +160,8 @@ length_agree a b c b' c' =
     (λ p u v. simp p) (λ p u v. rw p (u (omega arith))) (λ p u v. rw (p, u (omega arith), v (omega arith)))
 
 -- a list that begins with the bytes of a header, and is long enough, begins with that header
-pub header_agree : (s s' : List ℕ) {tag start len : ℕ} {nested : Bool} → Whole tag nested start len ≡ header_of s
-    → ((i : ℕ) → i < start → get_or s' i 0 ≡ get_or s i 0) → start + len ≤ length s' → header_of s' ≡ Whole tag nested start len
+pub header_agree : (s s' : List ℕ) {tag start len : ℕ} {nested : Bool} → Some (header tag nested start len) ≡ header_of s
+    → ((i : ℕ) → i < start → get_or s' i 0 ≡ get_or s i 0) → start + len ≤ length s' → header_of s' ≡ Some (header tag nested start len)
 header_agree s s' {tag} {start} {len} {nested} e same fits =
     let t = of_three tag_size s in
     let l = length_size (get_or s t 0) in
@@ -180,45 +182,51 @@ header_agree s s' {tag} {start} {len} {nested} e same fits =
     })
 
 -- what stands after a whole TLV does not matter
-pub header_more : (s t : List ℕ) {tag start len : ℕ} {nested : Bool} → Whole tag nested start len ≡ header_of s
-    → header_of (s ++ t) ≡ Whole tag nested start len
+pub header_more : (s t : List ℕ) {tag start len : ℕ} {nested : Bool} → Some (header tag nested start len) ≡ header_of s
+    → header_of (s ++ t) ≡ Some (header tag nested start len)
 header_more s t e =
     let h = header_inside s e in
     header_agree s (s ++ t) e (λ i k. get_or-append s t 0 i (omega arith)) (rw length-append (omega arith))
 
 -- what an arm knows of a header that was read of a part: `x` is the variant's value
-pub known : {h x : Header} {l m : List ℕ} → h ≡ x → h ≡ header_of l → l ≡ m → x ≡ header_of m
+pub known : {h x : Option Header} {l m : List ℕ} → h ≡ x → h ≡ header_of l → l ≡ m → x ≡ header_of m
 known p q r = sym p ∙ q ∙ ap header_of r
+
+-- what `ok_or` gave, read back
+pub some_of : {A B : Type 0} (x : Option A) (b : B) {a : A} → ok_or x b ≡ Ok a → Some a ≡ x
+some_of (Some a) b e = grind arith
+some_of None b e = grind arith
+
+pub none_of : {A B : Type 0} (x : Option A) (b : B) {e : B} → ok_or x b ≡ Err e → x ≡ None
+none_of (Some a) b e = grind arith
+none_of None b e = refl
 
 -- ---- one TLV with a tag, and nothing after it
 
 -- a TLV that is kept is the one that was there, and has passed the tests
-kept : (k : Bool) (x : Header) {tag start len : ℕ} {nested : Bool} → Whole tag nested start len ≡ cond k x Malformed → (k ≡ true) × (Whole tag nested start len ≡ x)
+kept : (k : Bool) (x : Option Header) {tag start len : ℕ} {nested : Bool} → Some (header tag nested start len) ≡ cond k x None → (k ≡ true) × (Some (header tag nested start len) ≡ x)
 kept true x e = (refl, e)
 kept false x e = let h : ◌≡◌ {A = ℕ} 0 1 = cc in absurd (omega arith)
 
 -- by the header at the front
-only_from_lem : (h : Header) (wanted : ℕ) (s : List ℕ) {tag start len : ℕ} {nested : Bool} → Whole tag nested start len ≡ only_from h wanted s
-    → (Whole tag nested start len ≡ h) × (tag ≡ wanted) × (start + len ≡ length s)
+only_from_lem : (h : Option Header) (wanted : ℕ) (s : List ℕ) {tag start len : ℕ} {nested : Bool} → Some (header tag nested start len) ≡ only_from h wanted s
+    → (Some (header tag nested start len) ≡ h) × (tag ≡ wanted) × (start + len ≡ length s)
 unfolding only_from
-only_from_lem Malformed wanted s e = let h : ◌≡◌ {A = ℕ} 0 1 = cc in absurd (omega arith)
-only_from_lem (Whole t b a n) wanted s {tag} {start} {len} {nested} e =
-    let p = kept (eqb t wanted && eqb (a + n) (length s)) (Whole t b a n) e in
-    let q = (and-eq-true_iff (eqb t wanted) (eqb (a + n) (length s))).0 p.0 in
-    let f = p.1 in
-    let et : tag ≡ t = cc in
-    let ea : start ≡ a = cc in
-    let en : len ≡ n = cc in
-    (f, rw et (eqb-true t wanted q.0), rw (ea, en) (eqb-true (a + n) (length s) q.1))
+only_from_lem None wanted s e = let h : ◌≡◌ {A = ℕ} 0 1 = cc in absurd (omega arith)
+only_from_lem (Some h) wanted s {tag} {start} {len} {nested} e =
+    let p = kept (eqb h.tag wanted && eqb (h.start + h.len) (length s)) (Some h) e in
+    let q = (and-eq-true_iff (eqb h.tag wanted) (eqb (h.start + h.len) (length s))).0 p.0 in
+    let same : header tag nested start len ≡ h = cc in
+    (p.1, ap (λ (x : Header). x.tag) same ∙ eqb-true h.tag wanted q.0, ap (λ (x : Header). x.start + x.len) same ∙ eqb-true (h.start + h.len) (length s) q.1)
 
 -- it is the TLV at the ofThree, has the tag, and ends where the list ends
-pub only_is : (wanted : ℕ) (s : List ℕ) {tag start len : ℕ} {nested : Bool} → Whole tag nested start len ≡ only_of wanted s
-    → (Whole tag nested start len ≡ header_of s) × (tag ≡ wanted) × (start + len ≡ length s)
+pub only_is : (wanted : ℕ) (s : List ℕ) {tag start len : ℕ} {nested : Bool} → Some (header tag nested start len) ≡ only_of wanted s
+    → (Some (header tag nested start len) ≡ header_of s) × (tag ≡ wanted) × (start + len ≡ length s)
 unfolding only_of
 only_is wanted s e = only_from_lem (header_of s) wanted s e
 
 -- a header's bytes and its length are few
-pub header_small : (s : List ℕ) {tag start len : ℕ} {nested : Bool} → ((i : ℕ) → get_or s i 0 < 256) → Whole tag nested start len ≡ header_of s → (start < 8) × (len < 65536)
+pub header_small : (s : List ℕ) {tag start len : ℕ} {nested : Bool} → ((i : ℕ) → get_or s i 0 < 256) → Some (header tag nested start len) ≡ header_of s → (start < 8) × (len < 65536)
 header_small s f e =
     let p = parts s e in
     let q = p.1 in

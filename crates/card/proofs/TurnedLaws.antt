@@ -14,9 +14,11 @@ use lib.ListN.{length, get_or, replicate, length-set}
 use lib.Seq.{get_or-set_same, get_or-set_other}
 use Rattle.common.specs.Lists.{all}
 use Rattle.card.specs.Fascn.{bit_at, char_bit_at, odd_at, ones, bytes_of, turned, decimal_at, values_of, unpack_refusal, unpack_of, pack_refusal, pack_of, unpacked, packed}
-use Rattle.card.specs.declared.fascn.UnpackAnswer.TheVariants as unpack-answers
-use Rattle.card.specs.declared.fascn.Unpacked.{Unpacked}
-use Rattle.card.specs.declared.fascn.Packed.{Packed}
+use Rattle.std.specs.Prelude.{Result, Err}
+use Rattle.common.specs.Refusal.{value_in}
+use Rattle.card.specs.declared.fascn.UnpackError.{UnpackError}
+use Rattle.card.specs.declared.fascn.UnpackError.TheVariants.{WrongParity}
+use Rattle.card.specs.declared.fascn.AboveNine.{AboveNine}
 use Rattle.common.proofs.ListsLaws.{all_at, all_fails}
 use Rattle.common.proofs.TestLaws.{same_test}
 use Rattle.card.proofs.CharacterLaws.{bit_at_lt, odd_by_rule, odd_bytes}
@@ -134,9 +136,9 @@ packed-turned d p small h = rw small (turned_refused (bytes_of (values_of d)) p 
 
 -- the same of what the code answers: r is what `pack` gives, and u what `unpack` gives for its bytes with one bit
 -- turned
-pub turned_answer : (d : List ℕ) (p : ℕ) → all 32 (decimal_at d) ≡ true → p < 200 → (r : Packed) → packed r ≡ pack_of d
-    → (u : Unpacked) → unpacked u ≡ unpack_of (turned r.bytes p) → u.answer ≡ unpack-answers.WrongParity
+pub turned_answer : (d : List ℕ) (p : ℕ) → all 32 (decimal_at d) ≡ true → p < 200 → (r : Result (List ℕ) AboveNine) → packed r ≡ pack_of d
+    → (u : Result (List ℕ) UnpackError) → unpacked u ≡ unpack_of (turned (value_in (replicate 25 0) r) p) → u ≡ Err WrongParity
 turned_answer d p small h r e u f =
-    let bytes : r.bytes ≡ (pack_of d).1 = ap (λ (x : ℕ × List ℕ). x.1) e in
-    let refused : unpack_of (turned r.bytes p) ≡ (16, replicate 32 0) = rw bytes (packed-turned d p small h) in
-    unpack_case_lem u.answer unpack-answers.WrongParity (ap (λ (x : ℕ × List ℕ). x.0) (f ∙ refused))
+    let bytes : value_in (replicate 25 0) r ≡ (pack_of d).1 = ap (λ (x : ℕ × List ℕ). x.1) e in
+    let refused : unpack_of (turned (value_in (replicate 25 0) r) p) ≡ (16, replicate 32 0) = rw bytes (packed-turned d p small h) in
+    unpack_case_lem u WrongParity (ap (λ (x : ℕ × List ℕ). x.0) (f ∙ refused))

@@ -1,13 +1,14 @@
 -- Commands (document 01, section Commands), a command sent again with another last byte (document 02, request 1), and
 -- the status words of answers.
 -- Assumes nothing.
-use Rattle.std.specs.Prelude.{Bool, cond, not, ◌&&◌, List, [], ◌∷◌, ◌++◌, ℕ, ◌+◌, ◌-◌, eqb, ltb, leb, length, get_or, set, take}
+use mathlib.Core.Path.{refl}
+use Rattle.std.specs.Prelude.{◌≡◌, Bool, false, cond, not, ◌&&◌, List, [], ◌∷◌, ◌++◌, ℕ, ◌+◌, ◌-◌, eqb, ltb, leb, length, get_or, set, take, Result}
 use Rattle.common.specs.Lists.{over_front, same_bytes}
-use Rattle.common.specs.Refusal.{refusal_of}
+use Rattle.common.specs.Refusal.{refusal_of, answer_in}
 use Rattle.card.specs.Object.{object_tag}
 use Rattle.card.specs.declared.object.Kind.{Kind}
-use Rattle.card.specs.declared.command.CommandAnswer.{CommandAnswer}
-use Rattle.card.specs.declared.command.CommandAnswer.TheVariants.{Written, WrongAid, ShortBuffer}
+use Rattle.card.specs.declared.command.CommandError.{CommandError}
+use Rattle.card.specs.declared.command.CommandError.TheVariants.{WrongAid, ShortBuffer}
 use Rattle.card.specs.declared.command.Status.{Status}
 use Rattle.card.specs.declared.command.Status.TheVariants.{Done, More, Again, Other}
 
@@ -76,16 +77,18 @@ get_data_of k last out = command_into (with_last (get_data_bytes k) last) out
 unfoldable pub get_response_of : ℕ → List ℕ → (ℕ × ℕ) × List ℕ
 get_response_of second out = command_into (get_response_bytes second) out
 
--- The answer of the code: document 01's number of each case, and the count beside it.
-abbrev pub command_number : CommandAnswer → ℕ
-command_number (Written n) = 0
+-- The answer of the code: document 01's number of each error, which is never 0; and the number of an answer with the
+-- count beside it, 0 where the command is refused.
+abbrev pub command_number : CommandError → ℕ
 command_number WrongAid = 3
 command_number ShortBuffer = 6
 
-abbrev pub command_answer : CommandAnswer → ℕ × ℕ
-command_answer (Written n) = (0, n)
-command_answer WrongAid = (3, 0)
-command_answer ShortBuffer = (6, 0)
+pub command_never_zero : (e : CommandError) → eqb (command_number e) 0 ≡ false
+command_never_zero WrongAid = refl
+command_never_zero ShortBuffer = refl
+
+abbrev pub command_answer : Result ℕ CommandError → ℕ × ℕ
+command_answer r = answer_in command_number 0 r
 
 -- ---- status words
 

@@ -1,11 +1,12 @@
 -- Dates (document 01, section Objects): "Field 35 is eight ASCII digits YYYYMMDD, a real Gregorian date, year 0001 to
 -- 9999."
 -- Assumes nothing.
-use Rattle.std.specs.Prelude.{Bool, cond, not, ◌&&◌, ◌||◌, List, ℕ, zero, suc, ◌+◌, ◌/◌, ◌%◌, eqb, leb, length}
+use mathlib.Core.Path.{refl}
+use Rattle.std.specs.Prelude.{◌≡◌, Bool, false, cond, not, ◌&&◌, ◌||◌, List, ℕ, zero, suc, ◌+◌, ◌/◌, ◌%◌, eqb, leb, length, Result}
 use Rattle.common.specs.Lists.{all}
+use Rattle.common.specs.Refusal.{answer_in}
 use Rattle.common.specs.Decimal.{is_digit_at, spelled}
-use Rattle.card.specs.declared.date.Date.{Date}
-use Rattle.card.specs.declared.date.Date.TheVariants.{Real, Unreal}
+use Rattle.card.specs.declared.date.UnrealDate.{UnrealDate}
 
 -- ---- the Gregorian calendar
 
@@ -43,10 +44,15 @@ ill_formed_date = 22
 unfoldable pub date_of : List ℕ → ℕ × ℕ
 date_of s = cond (good_date s) (0, spelled date_digits s) (ill_formed_date, 0)
 
--- The answer of the code: document 01's cause of each case, and the number beside it.
-abbrev pub date_answer : Date → ℕ × ℕ
-date_answer (Real n) = (0, n)
-date_answer Unreal = (ill_formed_date, 0)
+-- The answer of the code: document 01's cause of its error, and the number beside it.
+abbrev pub date_number : UnrealDate → ℕ
+date_number e = ill_formed_date
+
+pub date_never_zero : (e : UnrealDate) → eqb (date_number e) 0 ≡ false
+date_never_zero e = refl
+
+abbrev pub date_answer : Result ℕ UnrealDate → ℕ × ℕ
+date_answer r = answer_in date_number 0 r
 
 -- ---- the order of days
 

@@ -1,16 +1,14 @@
 -- FASC-N (document 01, section FASC-N, after documents 000 and 003, TIG SCEPACS): what 25 bytes mean, and what unpack,
 -- pack and key give; the rule of a character, and a turned bit (document 02, request 3).
 -- Assumes nothing.
-use Rattle.std.specs.Prelude.{◌≡◌, Bool, true, cond, not, ◌&&◌, List, [], ◌∷◌, ◌++◌, ℕ, suc, ◌+◌, ◌-◌, ◌*◌, ◌/◌, ◌%◌, ◌^◌, ◌<◌, eqb, ltb, leb, length, get_or, set, take, replicate}
+use mathlib.Core.Path.{refl}
+use Rattle.std.specs.Prelude.{◌≡◌, Bool, true, false, cond, not, ◌&&◌, List, [], ◌∷◌, ◌++◌, ℕ, suc, ◌+◌, ◌-◌, ◌*◌, ◌/◌, ◌%◌, ◌^◌, ◌<◌, eqb, ltb, leb, length, get_or, set, take, replicate, Result}
 use Rattle.std.specs.Int.Bits.{bit_xor}
 use Rattle.common.specs.Lists.{list_of, slice_of, all, number, xor_of}
-use Rattle.common.specs.Refusal.{refusal_of}
-use Rattle.card.specs.declared.fascn.UnpackAnswer.{UnpackAnswer}
-use Rattle.card.specs.declared.fascn.UnpackAnswer.TheVariants as unpack-answers
-use Rattle.card.specs.declared.fascn.PackAnswer.{PackAnswer}
-use Rattle.card.specs.declared.fascn.PackAnswer.TheVariants as pack-answers
-use Rattle.card.specs.declared.fascn.Unpacked.{Unpacked}
-use Rattle.card.specs.declared.fascn.Packed.{Packed}
+use Rattle.common.specs.Refusal.{refusal_of, answer_in}
+use Rattle.card.specs.declared.fascn.UnpackError.{UnpackError}
+use Rattle.card.specs.declared.fascn.UnpackError.TheVariants.{WrongLength, WrongParity, OutOfPlace, WrongCheck}
+use Rattle.card.specs.declared.fascn.AboveNine.{AboveNine}
 
 -- ---- the counts
 
@@ -217,21 +215,31 @@ pack_of d = pack_answer (pack_refusal d) (bytes_of (values_of d))
 unfoldable pub key_of : List ℕ → ℕ
 key_of d = number 10 key_length (λ k. get_or d k 0)
 
--- ---- the answers of the code: document 01's number of each case, and the values beside it
+-- ---- the answers of the code: document 01's number of each error, which is never 0, and the values beside it
 
-abbrev pub unpack_number : UnpackAnswer → ℕ
-unpack_number unpack-answers.Accepted = 0
-unpack_number unpack-answers.WrongLength = 15
-unpack_number unpack-answers.WrongParity = 16
-unpack_number unpack-answers.OutOfPlace = 17
-unpack_number unpack-answers.WrongCheck = 18
+abbrev pub unpack_number : UnpackError → ℕ
+unpack_number WrongLength = 15
+unpack_number WrongParity = 16
+unpack_number OutOfPlace = 17
+unpack_number WrongCheck = 18
 
-abbrev pub unpacked : Unpacked → ℕ × List ℕ
-unpacked r = (unpack_number r.answer, r.digits)
+pub unpack_never_zero : (e : UnpackError) → eqb (unpack_number e) 0 ≡ false
+unpack_never_zero WrongLength = refl
+unpack_never_zero WrongParity = refl
+unpack_never_zero OutOfPlace = refl
+unpack_never_zero WrongCheck = refl
 
-abbrev pub pack_number : PackAnswer → ℕ
-pack_number pack-answers.Accepted = 0
-pack_number pack-answers.AboveNine = 19
+abbrev pub unpacked : Result (List ℕ) UnpackError → ℕ × List ℕ
+unpacked r = answer_in unpack_number (replicate fascn_digits 0) r
 
-abbrev pub packed : Packed → ℕ × List ℕ
-packed r = (pack_number r.answer, r.bytes)
+abbrev pub above_nine : ℕ
+above_nine = 19
+
+abbrev pub pack_number : AboveNine → ℕ
+pack_number e = above_nine
+
+pub pack_never_zero : (e : AboveNine) → eqb (pack_number e) 0 ≡ false
+pack_never_zero e = refl
+
+abbrev pub packed : Result (List ℕ) AboveNine → ℕ × List ℕ
+packed r = answer_in pack_number (replicate fascn_bytes 0) r

@@ -1,24 +1,10 @@
 -- How the code goes about the FASC-N: a character as one number of five bits, the bit sent first highest. No public
 -- contract cites it.
 -- Assumes nothing.
-use Rattle.std.specs.Prelude.{◌≡◌, Bool, cond, List, [], ◌∷◌, ◌++◌, ℕ, suc, ◌+◌, ◌-◌, ◌*◌, ◌/◌, ◌%◌, ◌^◌, ◌≤◌, ◌<◌, eqb, get_or}
+use Rattle.std.specs.Prelude.{Bool, cond, List, [], ◌∷◌, ◌++◌, ℕ, suc, ◌+◌, ◌-◌, ◌*◌, ◌/◌, ◌%◌, ◌^◌, eqb, get_or}
 use Rattle.std.specs.Int.Bits.{bit_xor}
 use Rattle.common.specs.Lists.{list_of, number, xor_of}
 use Rattle.card.specs.Fascn.{fascn_bytes, fascn_characters, fascn_digits, char_bit, Piece, start_value, separator_value, mark, field, order, values_from, values_of}
-
--- What number_in asks: the n numbers from place at on lie within len, and n digits to the base fit 64 bits.
-pub record Readable (len at n base : ℕ) : Type 0 where
-  pub inside : at + n ≤ len
-  pub positive : 0 < base
-  pub fits : base ^ n < 2 ^ 64
-
--- What put_digits asks: the n places from place at on lie within len, n digits of so many bits fit 64 bits, and each
--- fits a byte.
-pub record Writable (len at n bits base : ℕ) : Type 0 where
-  pub inside : at + n ≤ len
-  pub shifts : bits * n < 64
-  pub power : base ≡ 2 ^ bits
-  pub byte : base ≤ 256
 
 -- Bit p of the numbers s, each of m bits, the highest first.
 unfoldable pub bit_of : ℕ → List ℕ → ℕ → ℕ

@@ -1,20 +1,18 @@
 -- Data objects (document 01, section Objects, with requests 5 and 7 of document 02): "A data object is one TLV with tag
 -- 53 and nothing after; its value holds one-byte-tag fields, each once, in this order". Fields are not opened further.
 -- Assumes nothing.
-use Rattle.std.specs.Prelude.{◌≡◌, Bool, true, false, cond, ◌&&◌, ◌||◌, List, [], ◌∷◌, ◌++◌, ℕ, ◌+◌, ◌-◌, ◌≤◌, eqb, leb, length, take, drop, replicate}
+use mathlib.Core.Path.{refl}
+use Rattle.std.specs.Prelude.{◌≡◌, Bool, true, false, cond, ◌&&◌, ◌||◌, List, [], ◌∷◌, ◌++◌, ℕ, ◌+◌, ◌-◌, ◌≤◌, eqb, leb, length, take, drop, replicate, Option, Some, None, Result}
+use Rattle.common.specs.Refusal.{answer_in}
 use Rattle.card.specs.Fascn.{fascn_bytes}
 use Rattle.card.specs.Date.{date_digits}
 use Rattle.card.specs.Tlv.{header_of, only_of, fits_form, encoded}
 use Rattle.card.specs.declared.tlv.Header.{Header}
-use Rattle.card.specs.declared.tlv.Header.TheVariants.{Whole, Malformed}
 use Rattle.card.specs.declared.object.Kind.{Kind}
 use Rattle.card.specs.declared.object.Kind.TheVariants.{Signed, Unsigned, Fingers, Picture}
 use Rattle.card.specs.declared.object.Row.{Row}
 use Rattle.card.specs.declared.object.Part.{Part}
-use Rattle.card.specs.declared.object.Field.{Field}
-use Rattle.card.specs.declared.object.Object.{Object}
-use Rattle.card.specs.declared.object.ObjectAnswer.{ObjectAnswer}
-use Rattle.card.specs.declared.object.ObjectAnswer.TheVariants as object-answers
+use Rattle.card.specs.declared.object.MalformedObject.{MalformedObject}
 
 -- ---- the tags
 
@@ -67,23 +65,23 @@ end_tag = 0xFE
 
 -- What a row says of its field: its tag, its least and its greatest length, and whether it may be absent.
 abbrev pub row_tag : Row → ℕ
-row_tag r = r.0
+row_tag r = r.tag
 
 abbrev pub least : Row → ℕ
-least r = r.1
+least r = r.least
 
 abbrev pub greatest : Row → ℕ
-greatest r = r.2
+greatest r = r.most
 
 abbrev pub may_be_absent : Row → Bool
-may_be_absent r = r.3
+may_be_absent r = r.optional
 
 -- A field that has to be there, and one that may be absent.
 abbrev pub required : ℕ → ℕ → ℕ → Row
-required tag low high = record { 0 = tag; 1 = low; 2 = high; 3 = false }
+required tag low high = record { tag = tag; least = low; most = high; optional = false }
 
 abbrev pub optional : ℕ → ℕ → ℕ → Row
-optional tag low high = record { 0 = tag; 1 = low; 2 = high; 3 = true }
+optional tag low high = record { tag = tag; least = low; most = high; optional = true }
 
 -- The rows with which the signed and the unsigned object begin: 30 (25 bytes), and around it "EE with 2 bytes may stand
 -- before 30. Straight after 30 may stand 31 (4 bytes), 32 (4) and 33 (9), in this order, each at most once. .. The
@@ -127,6 +125,12 @@ part start len = record { start = start; len = len }
 abbrev pub empty : Part
 empty = part 0 0
 
+-- What a row finds at a place: whether it is as the row asks, the part of its field, and the place after it.
+pub record Field : Type 0 where
+  pub ok : Bool
+  pub part : Part
+  pub next : ℕ
+
 -- The row's field is absent at a place: the next row's is looked for there.
 abbrev pub absent : Row → ℕ → Field
 absent r at = record { ok = may_be_absent r; part = empty; next = at }
@@ -138,10 +142,10 @@ found base r at start len =
 
 -- The row's field at place `at` of a value that begins at place `base` of the whole, by the header of the TLV that
 -- stands there.
-unfoldable pub field_from : Header → ℕ → Row → ℕ → Field
-field_from Malformed base r at = absent r at
-field_from (Whole tag nested start len) base r at =
-    cond (eqb tag (row_tag r)) (found base r at start len) (absent r at)
+unfoldable pub field_from : Option Header → ℕ → Row → ℕ → Field
+field_from None base r at = absent r at
+field_from (Some h) base r at =
+    cond (eqb h.tag (row_tag r)) (found base r at h.start h.len) (absent r at)
 
 unfoldable pub row_field : List ℕ → ℕ → Row → ℕ → Field
 row_field v base r at = field_from (header_of (drop at v)) base r at
@@ -157,18 +161,22 @@ fields_from v base (r ∷ rs) at =
 
 -- ---- the object
 
+-- All parts empty.
+abbrev pub no_parts : List Part
+no_parts = replicate most_fields empty
+
 -- "object malformed, 20"
 abbrev pub malformed_object : ℕ
 malformed_object = 20
 
 -- Cause 0 and the parts, those past the last field empty; or that cause, and all parts empty.
 unfoldable pub fields_answer : Bool × List Part → ℕ × List Part
-fields_answer f = cond f.0 (0, f.1 ++ replicate (most_fields - length f.1) empty) (malformed_object, replicate most_fields empty)
+fields_answer f = cond f.0 (0, f.1 ++ replicate (most_fields - length f.1) empty) (malformed_object, no_parts)
 
 -- By the header of the one TLV 53 that s is: its value is handed to the fields, and parts are those of the whole.
-unfoldable pub object_from : Header → Kind → List ℕ → ℕ × List Part
-object_from Malformed k s = (malformed_object, replicate most_fields empty)
-object_from (Whole tag nested start len) k s = fields_answer (fields_from (take len (drop start s)) start (rows_of k) 0)
+unfoldable pub object_from : Option Header → Kind → List ℕ → ℕ × List Part
+object_from None k s = (malformed_object, no_parts)
+object_from (Some h) k s = fields_answer (fields_from (take h.len (drop h.start s)) h.start (rows_of k) 0)
 
 -- What the object reader gives of the object s.
 unfoldable pub object_of : Kind → List ℕ → ℕ × List Part
@@ -217,11 +225,13 @@ value_in [] values tag = []
 value_in (r ∷ rs) [] tag = []
 value_in (r ∷ rs) (value ∷ values) tag = cond (eqb (row_tag r) tag) value (value_in rs values tag)
 
--- ---- the answer of the code: document 01's cause of each case, and the parts beside it
+-- ---- the answer of the code: document 01's cause of its error, and the parts beside it
 
-abbrev pub object_number : ObjectAnswer → ℕ
-object_number object-answers.Accepted = 0
-object_number object-answers.Malformed = malformed_object
+abbrev pub object_number : MalformedObject → ℕ
+object_number e = malformed_object
 
-abbrev pub object_answer : Object → ℕ × List Part
-object_answer r = (object_number r.answer, r.parts)
+pub object_never_zero : (e : MalformedObject) → eqb (object_number e) 0 ≡ false
+object_never_zero e = refl
+
+abbrev pub object_answer : Result (List Part) MalformedObject → ℕ × List Part
+object_answer r = answer_in object_number no_parts r

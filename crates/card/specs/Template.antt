@@ -2,12 +2,11 @@
 -- one 4F of 1 to 16 bytes, not compared further. Every nested value must itself be whole TLVs, to a depth of 4 counting
 -- 61 as 1; a TLV at depth 5 is malformed."
 -- Assumes nothing.
-use Rattle.std.specs.Prelude.{Bool, true, false, cond, not, ◌&&◌, ◌||◌, List, [], ◌∷◌, ℕ, zero, suc, ◌+◌, ◌-◌, eqb, leb, length, take, drop}
+use mathlib.Core.Path.{refl}
+use Rattle.std.specs.Prelude.{◌≡◌, Bool, true, false, cond, not, ◌&&◌, ◌||◌, List, [], ◌∷◌, ℕ, zero, suc, ◌+◌, ◌-◌, eqb, leb, length, take, drop, Option, Some, None}
 use Rattle.card.specs.Tlv.{header_of, only_of}
 use Rattle.card.specs.declared.tlv.Header.{Header}
-use Rattle.card.specs.declared.tlv.Header.TheVariants.{Whole, Malformed}
-use Rattle.card.specs.declared.template.TemplateAnswer.{TemplateAnswer}
-use Rattle.card.specs.declared.template.TemplateAnswer.TheVariants as template-answers
+use Rattle.card.specs.declared.template.MalformedTemplate.{MalformedTemplate}
 
 -- ---- the TLVs that a list of bytes is
 
@@ -22,8 +21,8 @@ tlvs_from zero s = []
 tlvs_from (suc n) s =
     cond (eqb (length s) 0) []
     (elim (header_of s) [
-      | Malformed ↦ broken ∷ []
-      | Whole tag nested start len ↦ tlv tag nested (take len (drop start s)) ∷ tlvs_from n (drop (start + len) s)
+      | None ↦ broken ∷ []
+      | Some h ↦ tlv h.tag h.nested (take h.len (drop h.start s)) ∷ tlvs_from n (drop (h.start + h.len) s)
     ])
 
 -- All of them: each takes a byte or more.
@@ -86,9 +85,9 @@ unfoldable pub good_value : List ℕ → Bool
 good_value v = whole_to levels_left v && just_one (lengths_of aid_tag (tlvs_of v))
 
 -- By the header of the one TLV 61 that s is.
-unfoldable pub good_from : Header → List ℕ → Bool
-good_from Malformed s = false
-good_from (Whole tag nested start len) s = good_value (take len (drop start s))
+unfoldable pub good_from : Option Header → List ℕ → Bool
+good_from None s = false
+good_from (Some h) s = good_value (take h.len (drop h.start s))
 
 -- "template malformed, cause 19"; 0 where it is good.
 abbrev pub malformed_template : ℕ
@@ -97,7 +96,9 @@ malformed_template = 19
 unfoldable pub template_of : List ℕ → ℕ
 template_of s = cond (good_from (only_of template_tag s) s) 0 malformed_template
 
--- The answer of the code.
-abbrev pub template_number : TemplateAnswer → ℕ
-template_number template-answers.Accepted = 0
-template_number template-answers.Malformed = malformed_template
+-- The answer of the code: document 01's cause of its error.
+abbrev pub template_number : MalformedTemplate → ℕ
+template_number e = malformed_template
+
+pub template_never_zero : (e : MalformedTemplate) → eqb (template_number e) 0 ≡ false
+template_never_zero e = refl

@@ -1,9 +1,8 @@
 -- TLVs (document 01, section Objects): "A TLV is tag, length, value." What the bytes at the front of a list are, and an
 -- encoder.
 -- Assumes nothing.
-use Rattle.std.specs.Prelude.{Bool, cond, ◌&&◌, List, [], ◌∷◌, ◌++◌, ℕ, ◌+◌, ◌*◌, ◌/◌, ◌%◌, eqb, ltb, length, get_or}
+use Rattle.std.specs.Prelude.{Bool, cond, ◌&&◌, List, [], ◌∷◌, ◌++◌, ℕ, ◌+◌, ◌*◌, ◌/◌, ◌%◌, eqb, ltb, length, get_or, Option, Some, None}
 use Rattle.card.specs.declared.tlv.Header.{Header}
-use Rattle.card.specs.declared.tlv.Header.TheVariants.{Whole, Malformed}
 
 -- ---- the tag
 
@@ -37,31 +36,34 @@ length_of a b c = cond (ltb a 0x80) a (cond (eqb a 0x81) b (b * 256 + c))
 -- The TLV at the front of s is read in three steps: its tag, its length, its end. A byte past the end of s reads as 0
 -- in the first two; a TLV whose tag, length or value runs past the end is malformed by the third.
 
+-- A header, by its four parts.
+abbrev pub header : ℕ → Bool → ℕ → ℕ → Header
+header tag nested start len = record { tag = tag; nested = nested; start = start; len = len }
+
 -- The value starts at a place and has a length: it ends within s.
-unfoldable pub ending_of : List ℕ → ℕ → Bool → ℕ → ℕ → Header
-ending_of s tag nested start len = cond (ltb (length s) (start + len)) Malformed (Whole tag nested start len)
+unfoldable pub ending_of : List ℕ → ℕ → Bool → ℕ → ℕ → Option Header
+ending_of s tag nested start len = cond (ltb (length s) (start + len)) None (Some (header tag nested start len))
 
 -- The tag takes t bytes: the length follows.
-unfoldable pub after_tag : List ℕ → ℕ → ℕ → Bool → Header
+unfoldable pub after_tag : List ℕ → ℕ → ℕ → Bool → Option Header
 after_tag s t tag nested =
     let at : ℕ → ℕ = λ i. get_or s i 0 in
     let l = length_size (at t) in
-    cond (eqb l 0) Malformed (ending_of s tag nested (t + l) (length_of (at t) (at (t + 1)) (at (t + 2))))
+    cond (eqb l 0) None (ending_of s tag nested (t + l) (length_of (at t) (at (t + 1)) (at (t + 2))))
 
--- The header: the tag, whether the value is nested, where it starts, and its length.
-unfoldable pub header_of : List ℕ → Header
+-- The header: the tag, whether the value is nested, where it starts, and its length; none where the TLV is malformed.
+unfoldable pub header_of : List ℕ → Option Header
 header_of s =
     let at : ℕ → ℕ = λ i. get_or s i 0 in
     let t = tag_size (at 0) (at 1) (at 2) in
-    cond (eqb t 0) Malformed (after_tag s t (tag_number (at 0) (at 1) (at 2)) (nested_bit (at 0)))
+    cond (eqb t 0) None (after_tag s t (tag_number (at 0) (at 1) (at 2)) (nested_bit (at 0)))
 
--- "one TLV with tag .. and nothing after it": its header, or malformed.
-unfoldable pub only_from : Header → ℕ → List ℕ → Header
-only_from Malformed wanted s = Malformed
-only_from (Whole tag nested start len) wanted s =
-    cond (eqb tag wanted && eqb (start + len) (length s)) (Whole tag nested start len) Malformed
+-- "one TLV with tag .. and nothing after it": its header, or none.
+unfoldable pub only_from : Option Header → ℕ → List ℕ → Option Header
+only_from None wanted s = None
+only_from (Some h) wanted s = cond (eqb h.tag wanted && eqb (h.start + h.len) (length s)) (Some h) None
 
-unfoldable pub only_of : ℕ → List ℕ → Header
+unfoldable pub only_of : ℕ → List ℕ → Option Header
 only_of wanted s = only_from (header_of s) wanted s
 
 -- ---- an encoder

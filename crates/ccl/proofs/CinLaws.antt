@@ -6,6 +6,7 @@ use mathlib.Core.Path.{◌≡◌, refl, sym, ap, ◌∙◌}
 use mathlib.Core.Bool.{Bool, true, false, ◌&&◌}
 use mathlib.Core.List.{List, ◌++◌}
 use mathlib.Core.Logic.{◌↔◌, ◌⊎◌, inl, inr, ⊎_elim}
+use Rattle.std.specs.Prelude.{Result, Ok, Err}
 use Prim.Native.Nat.{ℕ, zero, suc, ◌^◌, ◌≤◌, ◌<◌}
 use native.Mathlib.Nat.{mod-eq_of_lt, pow-le-pow_right, lt_of_lt_of_le}
 use native.Mathlib.Omega.{arith}
@@ -20,8 +21,7 @@ use Rattle.common.proofs.DecimalLaws.{length-digits_of, digits_are, spelled-digi
 use Rattle.common.proofs.ConditionLaws.{accepted_by, refused_by_lem}
 use Rattle.ccl.specs.Cin.{longest_cin, cin_digits, cin_of, entry_of, entry_answer}
 use Rattle.ccl.specs.declared.cin.Cin.{Cin}
-use Rattle.ccl.specs.declared.cin.Entry.{Entry}
-use Rattle.ccl.specs.declared.cin.Entry.TheVariants.{Typed, Bad}
+use Rattle.ccl.specs.declared.cin.BadEntry.{BadEntry}
 
 -- ---- digits and number
 
@@ -93,10 +93,10 @@ zeros_front (suc n) d = zero_front (length (replicate n 0x30 ++ d)) (replicate n
 -- ---- the entry
 
 -- what each answer of read_entry says
-pub entry_typed : (s : List ℕ) (r : Entry) (cin : Cin) → r ≡ Typed cin → entry_answer r ≡ entry_of s → (cin_digits s ≡ true) × (cin_of s ≡ cin.0)
+pub entry_typed : (s : List ℕ) (r : Result Cin BadEntry) (cin : Cin) → r ≡ Ok cin → entry_answer r ≡ entry_of s → (cin_digits s ≡ true) × (cin_of s ≡ cin.0)
 unfolding entry_of
 entry_typed s r cin p q = accepted_by 22 (cin_digits s) (cin_of s) cin.0 (ap entry_answer (sym p) ∙ q)
 
-pub entry_refused : (s : List ℕ) (r : Entry) → r ≡ Bad → entry_answer r ≡ entry_of s → cin_digits s ≡ false
+pub entry_refused : (s : List ℕ) (r : Result Cin BadEntry) (e : BadEntry) → r ≡ Err e → entry_answer r ≡ entry_of s → cin_digits s ≡ false
 unfolding entry_of
-entry_refused s r p q = refused_by_lem 22 (cin_digits s) (cin_of s) (ap entry_answer (sym p) ∙ q)
+entry_refused s r e p q = refused_by_lem 22 (cin_digits s) (cin_of s) (ap entry_answer (sym p) ∙ q)

@@ -5,6 +5,7 @@
 use mathlib.Core.Path.{◌≡◌, refl, sym, ap, ◌∙◌}
 use mathlib.Core.Bool.{Bool, true, false, cond, not, ◌||◌, ◌&&◌, or-true, or-false, or_assoc}
 use mathlib.Core.List.{List, [], ◌∷◌}
+use Rattle.std.specs.Prelude.{Result, Ok, Err}
 use Prim.Native.Nat.{ℕ, suc, ◌+◌, ◌-◌, ◌≤◌, ◌<◌}
 use native.Mathlib.Nat.{lt_irrefl}
 use native.Mathlib.Omega.{arith}
@@ -17,8 +18,8 @@ use Rattle.common.proofs.TestLaws.{clash, and_parts, and_left, and_right, and_bo
 use Rattle.common.proofs.ListsLaws.{all_front}
 use Rattle.common.proofs.ConditionLaws.{none_fit}
 use Rattle.ccl.specs.Merge.{ascending, merged, merge_refusal, merge_of, merged_after, merge_answer}
-use Rattle.ccl.specs.declared.merge.ListMerged.{ListMerged}
-use Rattle.ccl.specs.declared.merge.ListMerged.TheVariants as list-merged
+use Rattle.ccl.specs.declared.merge.MergeError.{MergeError}
+use Rattle.ccl.specs.declared.merge.MergeError.TheVariants as merge-errors
 
 -- ---- two keys are in one of three orders
 
@@ -96,11 +97,11 @@ ascending_by : (x : ℕ) (l : List ℕ) → ascending (x ∷ l) ≡ all (length 
 unfolding ascending
 ascending_by x l = let e : suc (length l) - 1 ≡ length l = omega arith in rw e
 
-one_ascends : (x : ℕ) → ascending (x ∷ []) ≡ true
+pub one_ascends : (x : ℕ) → ascending (x ∷ []) ≡ true
 unfolding all
 one_ascends x = ascending_by x []
 
-ascending_pair : (x y : ℕ) (l : List ℕ) → ascending (x ∷ y ∷ l) ≡ ltb x y && ascending (y ∷ l)
+pub ascending_pair : (x y : ℕ) (l : List ℕ) → ascending (x ∷ y ∷ l) ≡ ltb x y && ascending (y ∷ l)
 ascending_pair x y l = ascending_by x (y ∷ l) ∙ all_front (length l) (λ i. ltb (get_or (x ∷ y ∷ l) i 0) (get_or (y ∷ l) i 0)) ∙ ap (λ (b : Bool). ltb x y && b) (sym (ascending_by y l))
 
 -- without its first key it ascends still
@@ -244,15 +245,15 @@ merge_accepted a b room n e =
     (ascend.0, ascend.1, sym (ap (λ (x : ℕ × ℕ). x.1) e) ∙ ap (λ (r : ℕ). cond (eqb r 0) (length (merged a b)) 0) k, ltb-false room (length (merged a b)) clear.1.0, k)
 
 -- no two cases of the code's answer are the same answer: the case is found again in it
-abbrev case_of : ℕ × ℕ → ListMerged
-case_of r = cond (eqb r.0 0) (list-merged.Keys r.1) (cond (eqb r.0 25) list-merged.NotAscending list-merged.TooFewPlaces)
+abbrev case_of : ℕ × ℕ → Result ℕ MergeError
+case_of r = cond (eqb r.0 0) (Ok r.1) (Err (cond (eqb r.0 25) merge-errors.NotAscending merge-errors.TooFewPlaces))
 
-case_again : (r : ListMerged) → case_of (merge_answer r) ≡ r
-case_again (list-merged.Keys n) = refl
-case_again list-merged.NotAscending = refl
-case_again list-merged.TooFewPlaces = refl
+case_again : (r : Result ℕ MergeError) → case_of (merge_answer r) ≡ r
+case_again (Ok n) = refl
+case_again (Err merge-errors.NotAscending) = refl
+case_again (Err merge-errors.TooFewPlaces) = refl
 
-pub merge_case : (r s : ListMerged) → merge_answer r ≡ merge_answer s → r ≡ s
+pub merge_case : (r s : Result ℕ MergeError) → merge_answer r ≡ merge_answer s → r ≡ s
 merge_case r s e = sym (case_again r) ∙ ap case_of e ∙ case_again s
 
 -- ---- what it leaves in the places

@@ -10,7 +10,10 @@ use native.Mathlib.Omega.{arith}
 use borrow.Author.Tests.{ltb-true, ltb-false, leb-true, le-leb, eqb-true, eq-eqb, ne_eqb}
 use lib.Dec.{eqb, ltb, leb}
 use lib.ListN.{length, get_or, take, drop, take-append-drop, length-take, length-drop, get_or-append, get_or-eq_default}
-use lib.Seq.{get_or_at, drop_at, drop-drop, length-take-le}
+use lib.Seq.{get_or_at, get_or-take, drop_at, drop-drop, length-take-le}
+use Rattle.std.specs.List.{starts_with}
+use Rattle.std.specs.Str.{bytes_eq}
+use Rattle.std.proofs.lemmas.Slice.Eq.{bytes_eq-Decides}
 use Rattle.common.specs.Lists.{all, concat, passing, is_in, same_bytes}
 use Rattle.common.specs.Decimal.{is_digit_at, spelled}
 use Rattle.common.proofs.TestLaws.{and_parts, and_both, same_test}
@@ -51,6 +54,10 @@ leading_end s k e p = by (ltb (length s) 11) refl
     by true q = let h = ltb-true (length s) 11 q in let n : k ≡ length s = omega arith in passing_stop (is_digit_at s) k 11 (omega arith) p (rw n (past_end s))
     by false q = let h = ltb-false (length s) 11 q in let n : 11 ≡ k = omega arith in ap (λ (m : ℕ). passing m (is_digit_at s)) n ∙ p
 
+-- a byte of the first eleven, in which the loop looks
+pub front_byte : (s : List ℕ) {f : List ℕ} (i : ℕ) → f ≡ take 11 s → i < length f → get_or f i 0 ≡ get_or s i 0
+front_byte s i e h = ap (λ (l : List ℕ). get_or l i 0) e ∙ get_or-take 11 s i 0 (omega (arith, ap length e, length-take 11 s))
+
 -- the tests of read_entry decide
 pub entry_test : (s : List ℕ) → leb 1 (leading_digits s) && leb (leading_digits s) 10 && eqb (leading_digits s) (length s) ≡ cin_digits s
 entry_test s = same_test _ _ made read
@@ -67,6 +74,13 @@ entry_test s = same_test _ _ made read
         let p = cin_parts s e in
         rw (leading_is s (length s) p.1 p.2 (past_end s))
         (and_both (and_both (le-leb 1 (length s) p.0) (le-leb (length s) 10 p.1)) (eq-eqb (length s) (length s) refl))
+
+-- `starts_with`, as the definitions compare
+pub starts_same : (s p : List ℕ) → starts_with eqb s p ≡ same_bytes (take (length p) s) p
+starts_same s p =
+    let d = bytes_eq-Decides p (take (length p) s) in
+    same_test (bytes_eq p (take (length p) s)) (same_bytes (take (length p) s) p)
+    (λ e. rw (← d.0 e) (same_refl p)) (λ e. d.1 (sym (same_bytes_lem (take (length p) s) p e)))
 
 -- ---- the line of some digits, at the front of a text
 

@@ -3,10 +3,11 @@
 -- of the definition, and of the answer that the code gives.
 -- Assumes nothing.
 use mathlib.Core.Path.{◌≡◌, refl, sym, ap, ◌∙◌}
-use mathlib.Core.Bool.{Bool, true, false, cond}
+use mathlib.Core.Bool.{Bool, true, false, cond, not}
 use mathlib.Core.List.{List, [], ◌∷◌, ◌++◌, map}
 use mathlib.Core.Logic.{◌↔◌}
 use mathlib.Mathlib.Data.Bool.Basic.{eq-false_of_not-eq-true}
+use Rattle.std.specs.Prelude.{Result, Ok, Err}
 use Prim.Native.Nat.{ℕ, zero, suc, ◌+◌, ◌-◌, ◌^◌, ◌≤◌, ◌<◌}
 use native.Mathlib.Nat.{not-suc-le-zero, le_of_suc-le-suc}
 use native.Mathlib.Omega.{arith}
@@ -20,10 +21,9 @@ use Rattle.common.proofs.MemberLaws.{in_at, in_where}
 use Rattle.common.proofs.PassingLaws.{passing_is, passing-all, passing_stop}
 use Rattle.ccl.specs.Cin.{longest_cin, cin_digits, cin_of}
 use Rattle.ccl.specs.Visual.{visual_text_of, text_lines, visual_digits, good_visual, good_visuals, well_visual, cins_in, lookup_of, typed_of, lookup_answer, typed_answer}
-use Rattle.ccl.specs.declared.visual.Lookup.{Lookup}
-use Rattle.ccl.specs.declared.visual.Lookup.TheVariants as lookups
-use Rattle.ccl.specs.declared.visual.TypedLookup.{TypedLookup}
-use Rattle.ccl.specs.declared.visual.TypedLookup.TheVariants as typed-lookups
+use Rattle.ccl.specs.declared.visual.MalformedLine.{MalformedLine}
+use Rattle.ccl.specs.declared.visual.LookUpError.{LookUpError}
+use Rattle.ccl.specs.declared.visual.LookUpError.TheVariants as look-up-errors
 use Rattle.ccl.proofs.CinLaws.{cin_digits_lem, zeros_front}
 use Rattle.ccl.proofs.VisualTextLaws.{Each, Numbers, digits_of_all, good_at, well_good, digits-read, numbers-read}
 
@@ -223,58 +223,56 @@ yes_numbers n x l h small xs p =
 -- ---- the answers that the code gives: r is what a function of crate ccl answers, by its contract
 
 -- the case of a number and what stands beside it: an answer's number says its case
-lookup_from : ℕ × ℕ → Lookup
-lookup_from x = cond (eqb x.0 0) (cond (eqb x.1 0) lookups.NotListed lookups.Listed) (lookups.Malformed x.1)
+lookup_from : ℕ × ℕ → Result Bool MalformedLine
+lookup_from x = cond (eqb x.0 0) (Ok (not (eqb x.1 0))) (Err (record { 0 = x.1 }))
 
-from_lookup : (r : Lookup) → lookup_from (lookup_answer r) ≡ r
+from_lookup : (r : Result Bool MalformedLine) → lookup_from (lookup_answer r) ≡ r
 unfolding lookup_from
-from_lookup lookups.Listed = refl
-from_lookup lookups.NotListed = refl
-from_lookup (lookups.Malformed n) = refl
+from_lookup (Ok true) = refl
+from_lookup (Ok false) = refl
+from_lookup (Err e) = refl
 
-typed_from : ℕ × ℕ → TypedLookup
-typed_from x =
-    cond (eqb x.0 0) (cond (eqb x.1 0) typed-lookups.NotListed typed-lookups.Listed)
-    (cond (eqb x.0 23) typed-lookups.BadEntry (typed-lookups.Malformed x.1))
+typed_from : ℕ × ℕ → Result Bool LookUpError
+typed_from x = cond (eqb x.0 0) (Ok (not (eqb x.1 0))) (Err (cond (eqb x.0 23) look-up-errors.BadEntry (look-up-errors.Malformed x.1)))
 
-from_typed : (r : TypedLookup) → typed_from (typed_answer r) ≡ r
+from_typed : (r : Result Bool LookUpError) → typed_from (typed_answer r) ≡ r
 unfolding typed_from
-from_typed typed-lookups.Listed = refl
-from_typed typed-lookups.NotListed = refl
-from_typed typed-lookups.BadEntry = refl
-from_typed (typed-lookups.Malformed n) = refl
+from_typed (Ok true) = refl
+from_typed (Ok false) = refl
+from_typed (Err look-up-errors.BadEntry) = refl
+from_typed (Err (look-up-errors.Malformed n)) = refl
 
 -- `Cin::listed`
-module _ (cin : ℕ) (text : List ℕ) (r : Lookup) (e : lookup_answer r ≡ lookup_of cin text) where
-  case : (q : Lookup) → lookup_of cin text ≡ lookup_answer q → r ≡ q
+module _ (cin : ℕ) (text : List ℕ) (r : Result Bool MalformedLine) (e : lookup_answer r ≡ lookup_of cin text) where
+  case : (q : Result Bool MalformedLine) → lookup_of cin text ≡ lookup_answer q → r ≡ q
   case q p = sym (from_lookup r) ∙ ap lookup_from (e ∙ p) ∙ from_lookup q
 
-  pub lookup_says_listed : (r ≡ lookups.Listed) ↔ ((well_visual text ≡ true) × SomeLine cin text)
-  lookup_says_listed = (λ p. (lookup_yes cin text).0 (sym e ∙ ap lookup_answer p), λ q. case lookups.Listed ((lookup_yes cin text).1 q))
+  pub lookup_says_listed : (r ≡ Ok true) ↔ ((well_visual text ≡ true) × SomeLine cin text)
+  lookup_says_listed = (λ p. (lookup_yes cin text).0 (sym e ∙ ap lookup_answer p), λ q. case (Ok true) ((lookup_yes cin text).1 q))
 
-  pub lookup_says_not_listed : (r ≡ lookups.NotListed) ↔ ((well_visual text ≡ true) × (SomeLine cin text → ⊥))
-  lookup_says_not_listed = (λ p. (lookup_no cin text).0 (sym e ∙ ap lookup_answer p), λ q. case lookups.NotListed ((lookup_no cin text).1 q))
+  pub lookup_says_not_listed : (r ≡ Ok false) ↔ ((well_visual text ≡ true) × (SomeLine cin text → ⊥))
+  lookup_says_not_listed = (λ p. (lookup_no cin text).0 (sym e ∙ ap lookup_answer p), λ q. case (Ok false) ((lookup_no cin text).1 q))
 
-  pub lookup_says_malformed : (n : ℕ) → (r ≡ lookups.Malformed n) ↔ FirstMalformedVisual text n
-  lookup_says_malformed n = (λ p. (lookup_malformed cin text n).0 (sym e ∙ ap lookup_answer p), λ q. case (lookups.Malformed n) ((lookup_malformed cin text n).1 q))
+  pub lookup_says_malformed : (n : ℕ) → (r ≡ Err (record { 0 = n })) ↔ FirstMalformedVisual text n
+  lookup_says_malformed n = (λ p. (lookup_malformed cin text n).0 (sym e ∙ ap lookup_answer p), λ q. case (Err (record { 0 = n })) ((lookup_malformed cin text n).1 q))
 
 -- `look_up`
-module _ (typed text : List ℕ) (r : TypedLookup) (e : typed_answer r ≡ typed_of typed text) where
-  typed_case : (q : TypedLookup) → typed_of typed text ≡ typed_answer q → r ≡ q
+module _ (typed text : List ℕ) (r : Result Bool LookUpError) (e : typed_answer r ≡ typed_of typed text) where
+  typed_case : (q : Result Bool LookUpError) → typed_of typed text ≡ typed_answer q → r ≡ q
   typed_case q p = sym (from_typed r) ∙ ap typed_from (e ∙ p) ∙ from_typed q
 
-  pub says_listed : (r ≡ typed-lookups.Listed) ↔ ((cin_digits typed ≡ true) × (well_visual text ≡ true) × SomeLine (cin_of typed) text)
-  says_listed = (λ p. (yes_where typed text).0 (sym e ∙ ap typed_answer p), λ q. typed_case typed-lookups.Listed ((yes_where typed text).1 q))
+  pub says_listed : (r ≡ Ok true) ↔ ((cin_digits typed ≡ true) × (well_visual text ≡ true) × SomeLine (cin_of typed) text)
+  says_listed = (λ p. (yes_where typed text).0 (sym e ∙ ap typed_answer p), λ q. typed_case (Ok true) ((yes_where typed text).1 q))
 
-  pub says_not_listed : (r ≡ typed-lookups.NotListed) ↔ ((cin_digits typed ≡ true) × (well_visual text ≡ true) × (SomeLine (cin_of typed) text → ⊥))
-  says_not_listed = (λ p. (no_where typed text).0 (sym e ∙ ap typed_answer p), λ q. typed_case typed-lookups.NotListed ((no_where typed text).1 q))
+  pub says_not_listed : (r ≡ Ok false) ↔ ((cin_digits typed ≡ true) × (well_visual text ≡ true) × (SomeLine (cin_of typed) text → ⊥))
+  says_not_listed = (λ p. (no_where typed text).0 (sym e ∙ ap typed_answer p), λ q. typed_case (Ok false) ((no_where typed text).1 q))
 
-  pub says_malformed : (n : ℕ) → (r ≡ typed-lookups.Malformed n) ↔ ((cin_digits typed ≡ true) × FirstMalformedVisual text n)
-  says_malformed n = (λ p. (malformed_where typed text n).0 (sym e ∙ ap typed_answer p), λ q. typed_case (typed-lookups.Malformed n) ((malformed_where typed text n).1 q))
+  pub says_malformed : (n : ℕ) → (r ≡ Err (look-up-errors.Malformed n)) ↔ ((cin_digits typed ≡ true) × FirstMalformedVisual text n)
+  says_malformed n = (λ p. (malformed_where typed text n).0 (sym e ∙ ap typed_answer p), λ q. typed_case (Err (look-up-errors.Malformed n)) ((malformed_where typed text n).1 q))
 
-  pub says_bad_entry : (r ≡ typed-lookups.BadEntry) ↔ (cin_digits typed ≡ false)
+  pub says_bad_entry : (r ≡ Err look-up-errors.BadEntry) ↔ (cin_digits typed ≡ false)
   unfolding typed_of
   says_bad_entry = (
     λ p. (entry_where typed text).0 (ap (λ (x : ℕ × ℕ). x.0) (sym e ∙ ap typed_answer p)),
-    λ q. typed_case typed-lookups.BadEntry (rw q),
+    λ q. typed_case (Err look-up-errors.BadEntry) (rw q),
   )

@@ -1,11 +1,12 @@
 -- The Card Identification Number (document 02, request 2): "A CIN is 1 to 10 ASCII decimal digits read as a number";
 -- and the entry of one.
 -- Assumes nothing.
-use Rattle.std.specs.Prelude.{Bool, cond, ◌&&◌, List, ℕ, leb, length}
+use Rattle.std.specs.Prelude.{◌≡◌, refl, Bool, false, cond, ◌&&◌, List, ℕ, eqb, leb, length, Result, Ok, Err}
 use Rattle.common.specs.Lists.{all}
 use Rattle.common.specs.Decimal.{is_digit_at, spelled}
-use Rattle.ccl.specs.declared.cin.Entry.{Entry}
-use Rattle.ccl.specs.declared.cin.Entry.TheVariants as entries
+use Rattle.common.specs.Refusal.{number_in}
+use Rattle.ccl.specs.declared.cin.Cin.{Cin}
+use Rattle.ccl.specs.declared.cin.BadEntry.{BadEntry}
 
 -- ---- digits and number
 
@@ -30,7 +31,16 @@ bad_entry = 23
 unfoldable pub entry_of : List ℕ → ℕ × ℕ
 entry_of typed = cond (cin_digits typed) (0, cin_of typed) (bad_entry, 0)
 
--- The answer of the code: document 02's number of each case, and the number typed beside it.
-abbrev pub entry_answer : Entry → ℕ × ℕ
-entry_answer (entries.Typed cin) = (0, cin.0)
-entry_answer entries.Bad = (bad_entry, 0)
+-- The answer of the code: document 02's number of it, and beside it the number typed, or 0.
+abbrev pub entry_number : BadEntry → ℕ
+entry_number e = bad_entry
+
+pub entry_never_zero : (e : BadEntry) → eqb (entry_number e) 0 ≡ false
+entry_never_zero e = refl
+
+abbrev pub number_typed : Result Cin BadEntry → ℕ
+number_typed (Ok cin) = cin.0
+number_typed (Err e) = 0
+
+abbrev pub entry_answer : Result Cin BadEntry → ℕ × ℕ
+entry_answer r = (number_in entry_number r, number_typed r)

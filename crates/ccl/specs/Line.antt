@@ -1,12 +1,11 @@
 -- A list line (document 01, "List text and the gate program"): "A list line is 32 bytes: `(card (1341 0001 987654) (1 1))` and 0A, the key's 16 digits so spaced."
 -- Assumes nothing.
-use Rattle.std.specs.Prelude.{Bool, cond, List, [], ◌∷◌, ◌++◌, ℕ, ◌+◌, ◌-◌, ◌^◌}
+use Rattle.std.specs.Prelude.{Bool, cond, List, [], ◌∷◌, ◌++◌, ℕ, ◌+◌, ◌-◌, ◌^◌, Option, Some, None}
 use Rattle.common.specs.Lists.{list_of, slice_of}
 use Rattle.common.specs.Decimal.{digit_values, digit_of}
 use Rattle.card.specs.Fascn.{key_length, key_of}
 use Rattle.text.specs.Form.{between}
-use Rattle.ccl.specs.declared.line.CardKey.{CardKey}
-use Rattle.ccl.specs.declared.line.CardKey.TheVariants.{Card, Malformed}
+use Rattle.card.specs.declared.fascn.Key.{Key}
 
 -- A key has 16 digits: keys are the numbers below this one, up to the highest.
 abbrev pub key_limit : ℕ
@@ -61,9 +60,9 @@ line_key s = key_of (digit_values (line_digits s))
 
 -- ---- the answer of the code: document 01's number of each case, and the key beside it
 
-abbrev pub card_answer : CardKey → ℕ × ℕ
-card_answer (Card key) = (0, key.0)
-card_answer Malformed = (20, 0)
+abbrev pub card_answer : Option Key → ℕ × ℕ
+card_answer (Some key) = (0, key.0)
+card_answer None = (20, 0)
 
 unfoldable pub card_of : List ℕ → ℕ × ℕ
 card_of s = cond (good_card s) (0, line_key s) (20, 0)

@@ -2,14 +2,14 @@
 -- number, counted from 1; 21 output with fewer places than keys"; "22 a key of 10^16 or more; 21 output under 32 bytes
 -- a key. Both give the count of keys, and places past the last key stay."
 -- Assumes nothing.
-use Rattle.std.specs.Prelude.{Bool, cond, not, List, [], ◌∷◌, ◌++◌, ℕ, ◌+◌, ◌*◌, ◌/◌, eqb, ltb, length, get_or, take, drop}
+use Rattle.std.specs.Prelude.{◌≡◌, refl, Bool, false, cond, not, List, [], ◌∷◌, ◌++◌, ℕ, ◌+◌, ◌*◌, ◌/◌, eqb, ltb, length, get_or, take, drop, Result, Ok, Err}
 use Rattle.common.specs.Lists.{all, passing, over_front, written}
-use Rattle.common.specs.Refusal.{refusal_of}
+use Rattle.common.specs.Refusal.{refusal_of, number_in, answer_in}
 use Rattle.ccl.specs.Line.{key_limit, good_line, line_key, line_of}
-use Rattle.ccl.specs.declared.list.ListRead.{ListRead}
-use Rattle.ccl.specs.declared.list.ListRead.TheVariants as List-read
-use Rattle.ccl.specs.declared.list.ListWritten.{ListWritten}
-use Rattle.ccl.specs.declared.list.ListWritten.TheVariants as list_written
+use Rattle.ccl.specs.declared.list.ReadError.{ReadError}
+use Rattle.ccl.specs.declared.list.ReadError.TheVariants as read-errors
+use Rattle.ccl.specs.declared.list.WriteError.{WriteError}
+use Rattle.ccl.specs.declared.list.WriteError.TheVariants as write-errors
 
 -- ---- lines
 
@@ -69,14 +69,32 @@ lines_of (key ∷ keys) = line_of key ++ lines_of keys
 unfoldable pub text_after : List ℕ → List ℕ → List ℕ
 text_after keys out = cond (eqb (write_refusal keys (length out)) 0) (over_front (lines_of keys) out) out
 
--- ---- the answers of the code: document 01's number of each case, and the number beside it
+-- ---- the answers of the code: document 01's number of each error, and what stands beside it
 
-abbrev pub read_answer : ListRead → ℕ × ℕ
-read_answer (List-read.Keys n) = (0, n)
-read_answer (List-read.Malformed n) = (20, n)
-read_answer List-read.TooFewPlaces = (21, 0)
+abbrev pub read_number : ReadError → ℕ
+read_number (read-errors.Malformed n) = 20
+read_number read-errors.TooFewPlaces = 21
 
-abbrev pub write_answer : ListWritten → ℕ × ℕ
-write_answer (list_written.Keys n) = (0, n)
-write_answer list_written.KeyTooLarge = (22, 0)
-write_answer list_written.ShortBuffer = (21, 0)
+pub read_never_zero : (e : ReadError) → eqb (read_number e) 0 ≡ false
+read_never_zero (read-errors.Malformed n) = refl
+read_never_zero read-errors.TooFewPlaces = refl
+
+-- the count of keys, the number of the first malformed line, or 0
+abbrev pub beside_answer : Result ℕ ReadError → ℕ
+beside_answer (Ok n) = n
+beside_answer (Err (read-errors.Malformed n)) = n
+beside_answer (Err read-errors.TooFewPlaces) = 0
+
+abbrev pub read_answer : Result ℕ ReadError → ℕ × ℕ
+read_answer r = (number_in read_number r, beside_answer r)
+
+abbrev pub write_number : WriteError → ℕ
+write_number write-errors.ShortBuffer = 21
+write_number write-errors.KeyTooLarge = 22
+
+pub write_never_zero : (e : WriteError) → eqb (write_number e) 0 ≡ false
+write_never_zero write-errors.ShortBuffer = refl
+write_never_zero write-errors.KeyTooLarge = refl
+
+abbrev pub write_answer : Result ℕ WriteError → ℕ × ℕ
+write_answer r = answer_in write_number 0 r

@@ -2,11 +2,11 @@
 -- has it. The result carries its count of keys, and places past it stay." "25 where either input isn't strictly
 -- ascending; 26 where the output is shorter than the merged count, tested next. The output is untouched in both."
 -- Assumes nothing.
-use Rattle.std.specs.Prelude.{Bool, cond, not, ◌&&◌, List, [], ◌∷◌, ℕ, suc, ◌-◌, eqb, ltb, length, get_or}
+use Rattle.std.specs.Prelude.{◌≡◌, refl, Bool, false, cond, not, ◌&&◌, List, [], ◌∷◌, ℕ, suc, ◌-◌, eqb, ltb, length, get_or, Result}
 use Rattle.common.specs.Lists.{all, over_front}
-use Rattle.common.specs.Refusal.{refusal_of}
-use Rattle.ccl.specs.declared.merge.ListMerged.{ListMerged}
-use Rattle.ccl.specs.declared.merge.ListMerged.TheVariants as list-merged
+use Rattle.common.specs.Refusal.{refusal_of, answer_in}
+use Rattle.ccl.specs.declared.merge.MergeError.{MergeError}
+use Rattle.ccl.specs.declared.merge.MergeError.TheVariants as merge-errors
 
 -- Each key is below the one after it. A list of one key ascends, and so does the empty list.
 unfoldable pub ascending : List ℕ → Bool
@@ -31,8 +31,14 @@ merge_of a b room = let k = merge_refusal a b room in (k, cond (eqb k 0) (length
 unfoldable pub merged_after : List ℕ → List ℕ → List ℕ → List ℕ
 merged_after a b out = cond (eqb (merge_refusal a b (length out)) 0) (over_front (merged a b) out) out
 
--- The answer of the code: document 02's number of each case, and the count of keys beside it.
-abbrev pub merge_answer : ListMerged → ℕ × ℕ
-merge_answer (list-merged.Keys n) = (0, n)
-merge_answer list-merged.NotAscending = (25, 0)
-merge_answer list-merged.TooFewPlaces = (26, 0)
+-- The answer of the code: document 02's number of each error, and the count of keys beside it, or 0.
+abbrev pub merge_number : MergeError → ℕ
+merge_number merge-errors.NotAscending = 25
+merge_number merge-errors.TooFewPlaces = 26
+
+pub merge_never_zero : (e : MergeError) → eqb (merge_number e) 0 ≡ false
+merge_never_zero merge-errors.NotAscending = refl
+merge_never_zero merge-errors.TooFewPlaces = refl
+
+abbrev pub merge_answer : Result ℕ MergeError → ℕ × ℕ
+merge_answer r = answer_in merge_number 0 r

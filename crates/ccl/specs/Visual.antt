@@ -2,14 +2,14 @@
 -- (12345678))` with 1 to 10 digits and 0A after each line"; "It is yes exactly when the number is in the list"; "24 for
 -- a malformed visual line anywhere in the text, with the first such line's number from 1, tested after the entry".
 -- Assumes nothing.
-use Rattle.std.specs.Prelude.{Bool, cond, ◌&&◌, List, [], ◌∷◌, ◌++◌, map, ℕ, ◌+◌, ◌-◌, eqb, length, get_or, take, drop}
+use Rattle.std.specs.Prelude.{◌≡◌, refl, Bool, false, cond, ◌&&◌, List, [], ◌∷◌, ◌++◌, map, ℕ, ◌+◌, ◌-◌, eqb, length, get_or, take, drop, Result, Ok, Err}
 use Rattle.common.specs.Lists.{concat, passing, is_in, same_bytes}
+use Rattle.common.specs.Refusal.{number_in}
 use Rattle.ccl.specs.Line.{closes}
 use Rattle.ccl.specs.Cin.{cin_digits, cin_of, bad_entry}
-use Rattle.ccl.specs.declared.visual.Lookup.{Lookup}
-use Rattle.ccl.specs.declared.visual.Lookup.TheVariants as lookups
-use Rattle.ccl.specs.declared.visual.TypedLookup.{TypedLookup}
-use Rattle.ccl.specs.declared.visual.TypedLookup.TheVariants as typed-lookups
+use Rattle.ccl.specs.declared.visual.MalformedLine.{MalformedLine}
+use Rattle.ccl.specs.declared.visual.LookUpError.{LookUpError}
+use Rattle.ccl.specs.declared.visual.LookUpError.TheVariants as look-up-errors
 
 -- ---- digits written as lines
 
@@ -79,15 +79,35 @@ lookup_of cin text = cond (well_visual text) (0, cond (is_in cin (cins_in text))
 unfoldable pub typed_of : List ℕ → List ℕ → ℕ × ℕ
 typed_of typed text = cond (cin_digits typed) (lookup_of (cin_of typed) text) (bad_entry, 0)
 
--- ---- the answers of the code: document 02's number of each case, and what stands beside it
+-- ---- the answers of the code: document 02's number of each error, and what stands beside it
 
-abbrev pub lookup_answer : Lookup → ℕ × ℕ
-lookup_answer lookups.Listed = (0, 1)
-lookup_answer lookups.NotListed = (0, 0)
-lookup_answer (lookups.Malformed n) = (malformed_visual, n)
+abbrev pub lookup_number : MalformedLine → ℕ
+lookup_number e = malformed_visual
 
-abbrev pub typed_answer : TypedLookup → ℕ × ℕ
-typed_answer typed-lookups.Listed = (0, 1)
-typed_answer typed-lookups.NotListed = (0, 0)
-typed_answer typed-lookups.BadEntry = (bad_entry, 0)
-typed_answer (typed-lookups.Malformed n) = (malformed_visual, n)
+pub lookup_never_zero : (e : MalformedLine) → eqb (lookup_number e) 0 ≡ false
+lookup_never_zero e = refl
+
+-- 1 or 0 for yes or no, or the number of the first malformed line
+abbrev pub beside_lookup : Result Bool MalformedLine → ℕ
+beside_lookup (Ok listed) = cond listed 1 0
+beside_lookup (Err e) = e.0
+
+abbrev pub lookup_answer : Result Bool MalformedLine → ℕ × ℕ
+lookup_answer r = (number_in lookup_number r, beside_lookup r)
+
+abbrev pub typed_number : LookUpError → ℕ
+typed_number look-up-errors.BadEntry = bad_entry
+typed_number (look-up-errors.Malformed n) = malformed_visual
+
+pub typed_never_zero : (e : LookUpError) → eqb (typed_number e) 0 ≡ false
+typed_never_zero look-up-errors.BadEntry = refl
+typed_never_zero (look-up-errors.Malformed n) = refl
+
+-- the same, and 0 beside 23
+abbrev pub beside_typed : Result Bool LookUpError → ℕ
+beside_typed (Ok listed) = cond listed 1 0
+beside_typed (Err look-up-errors.BadEntry) = 0
+beside_typed (Err (look-up-errors.Malformed n)) = n
+
+abbrev pub typed_answer : Result Bool LookUpError → ℕ × ℕ
+typed_answer r = (number_in typed_number r, beside_typed r)

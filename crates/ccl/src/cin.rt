@@ -2,14 +2,15 @@
 // and that a visual list holds (document 02, request 2).
 ghost use Rattle.std.specs.Prelude.{◌≡◌};
 ghost use Rattle.common.specs.Decimal.{spelled};
-ghost use Rattle.ccl.specs.Cin.{entry_answer, entry_of};
+ghost use Rattle.ccl.specs.Cin.{entry_number, entry_never_zero, entry_answer, entry_of};
 ghost use Rattle.ccl.specs.VisualCode.{leading_digits};
 
-use common::number;
+use common::refusal::Numbered;
+use common::slice;
 
 // Document 02's CIN. A type of its own, whose number no other crate reads or sets: it comes from an entry, and is never
 // compared with a FASC-N key.
-#[derive(Clone, Copy)]
+#[derive(Clone, Copy, Debug, PartialEq, Eq)]
 pub struct Cin(pub(crate) u64);
 
 // The most digits of a CIN; `longest_cin` in the definitions.
@@ -18,16 +19,23 @@ pub(crate) const LONGEST_CIN: usize = 10;
 // Document 02's number of an entry that is no CIN; `bad_entry` in the definitions.
 pub const BAD_ENTRY: u8 = 23;
 
-// What read_entry answers: the CIN, or that the entry is none. `entry_answer` gives document 02's number of each.
-#[derive(Clone, Copy)]
-pub enum Entry {
-    Typed(Cin),
-    Bad,
+// The entry is no CIN. A type of its own: From and `?` tell it from a malformed line.
+#[derive(Clone, Copy, Debug, PartialEq, Eq)]
+pub struct BadEntry;
+
+impl Numbered for BadEntry {
+    ghost number_of = { entry_number };
+
+    ghost never_zero = { entry_never_zero };
+
+    fn number(self) -> u8 {
+        BAD_ENTRY
+    }
 }
 
 // The digits that some bytes begin with, as far as one more than a CIN may have: how many they are, and the number that
 // they spell. That number is a CIN's where the digits are 1 to 10.
-#[derive(Clone, Copy)]
+#[derive(Clone, Copy, Debug, PartialEq, Eq)]
 pub(crate) struct Digits {
     pub count: usize,
     pub number: u64,
@@ -37,34 +45,31 @@ pub(crate) fn leading_digits(s: &[u8]) -> Digits
     ensures count { result.count ≡ leading_digits s.now }
     ensures spells { result.number ≡ spelled result.count s.now }
 {
-    let most = number::least(s.len(), LONGEST_CIN + 1);
-    let mut n: u64 = 0;
-    let mut k = 0;
-    while k < most {
-        let x = s[k];
-        if !((b'0' <= x) & (x <= b'9')) {
-            return Digits {
-                count: k,
-                number: n,
-            };
+    let front = slice::front(s, LONGEST_CIN + 1);
+    let mut number = 0;
+    for (count, x) in front.iter().enumerate() {
+        if !x.is_ascii_digit() {
+            return Digits { count, number };
         }
-        n = n * 10 + (x % 16) as u64;
-        k += 1;
+        number = number * 10 + u64::from(*x % 16);
     }
     Digits {
-        count: k,
-        number: n,
+        count: front.len(),
+        number,
     }
 }
 
 // The CIN that a guard typed.
-pub fn read_entry(typed: &[u8]) -> Entry
+#[tactic(auto, using(crate::proofs::VisualCodeLaws::entry_test), unfolding(crate::specs::Cin::entry_of, crate::specs::Cin::cin_of))]
+pub fn read_entry(typed: &[u8]) -> Result<Cin, BadEntry>
     ensures { entry_answer result ≡ entry_of typed.now }
 {
     let digits = leading_digits(typed);
     let n = digits.count;
+    // the bounds by hand: with `contains` the check found no proof
     if (1 <= n) & (n <= LONGEST_CIN) & (n == typed.len()) {
-        return Entry::Typed(Cin(digits.number));
+        Ok(Cin(digits.number))
+    } else {
+        Err(BadEntry)
     }
-    Entry::Bad
 }

@@ -2,7 +2,7 @@
 ghost use Rattle.std.specs.Prelude.{◌≡◌, ◌<◌, length};
 ghost use Rattle.common.specs.Decimal.{digit_values, digits_of};
 ghost use Rattle.card.specs.Fascn.{key_length};
-ghost use Rattle.ccl.specs.Line.{line_of, line_digits, line_key, card_answer, card_of};
+ghost use Rattle.ccl.specs.Line.{good_line, line_of, line_digits, line_key, card_answer, card_of};
 
 use card::fascn;
 use card::fascn::Key;
@@ -13,16 +13,10 @@ use text::form;
 pub const LINE: usize = 32;
 
 // A key is below this number, 10 to the power of its count of digits; `key_limit` in the definitions.
-pub const KEY_LIMIT: u64 = 10000000000000000;
-
-// What card_key answers: the key, or that the text is no card's. `card_answer` gives document 01's number of each.
-#[derive(Clone, Copy)]
-pub enum CardKey {
-    Card(Key),
-    Malformed,
-}
+pub const KEY_LIMIT: u64 = 10_000_000_000_000_000;
 
 // The values of the digits in a line, or in a line without its 0A.
+#[tactic(auto, unfolding(crate::specs::Line::line_digits, common::specs::Lists::slice_of, common::specs::Lists::list_of))]
 fn line_values(s: &[u8]) -> [u8; KEY_DIGITS]
     requires { 28 < length s.now }
     ensures { result ≡ digit_values (line_digits s.now) }
@@ -48,6 +42,7 @@ fn line_values(s: &[u8]) -> [u8; KEY_DIGITS]
 }
 
 // The key in a line, or in a line without its 0A.
+#[tactic(auto, unfolding(crate::specs::Line::line_key))]
 pub(crate) fn line_key(s: &[u8]) -> Key
     requires { 28 < length s.now }
     ensures { result.0 ≡ line_key s.now }
@@ -56,8 +51,21 @@ pub(crate) fn line_key(s: &[u8]) -> Key
     fascn::key_from(&d)
 }
 
-// The key of a card's text, that is of a line without its 0A.
-pub fn card_key(s: &[u8]) -> CardKey
+// Whether the bytes are a good line.
+#[tactic(auto, unfolding(crate::specs::Line::good_line, crate::specs::Line::line_of, crate::specs::Line::card_text, common::specs::Lists::list_of, common::specs::Decimal::digit_of))]
+pub(crate) fn good_line(s: &[u8]) -> bool
+    ensures { result ≡ good_line s.now }
+{
+    form::between(
+        b"(card (0000 0000 000000) (0 0))\n",
+        b"(card (9999 9999 999999) (9 9))\n",
+        s,
+    )
+}
+
+// The key of a card's text, that is of a line without its 0A; None where the text is no card's, which document 01
+// numbers 20. Its own strings: one constant with and without 0A would have to be cut.
+pub fn card_key(s: &[u8]) -> Option<Key>
     ensures { card_answer result ≡ card_of s.now }
 {
     if form::between(
@@ -65,9 +73,9 @@ pub fn card_key(s: &[u8]) -> CardKey
         b"(card (9999 9999 999999) (9 9))",
         s,
     ) {
-        CardKey::Card(line_key(s))
+        Some(line_key(s))
     } else {
-        CardKey::Malformed
+        None
     }
 }
 
@@ -77,16 +85,16 @@ fn digits_of(key: Key) -> [u8; KEY_DIGITS]
 {
     let mut d = [0u8; KEY_DIGITS];
     let mut rest = key.0;
-    let mut k = KEY_DIGITS;
-    while k > 0 {
-        k -= 1;
-        d[k] = 48 + (rest % 10) as u8;
+    // by the places: of what `iter_mut().rev()` has lent, the library promises nothing afterwards
+    for k in (0..KEY_DIGITS).rev() {
+        d[k] = b'0' + (rest % 10) as u8;
         rest /= 10;
     }
     d
 }
 
 // The line of a key.
+#[tactic(auto, unfolding(crate::specs::Line::line_of, crate::specs::Line::card_text, common::specs::Decimal::digits_of, common::specs::Lists::list_of))]
 pub(crate) fn line_of(key: Key) -> [u8; LINE]
     ensures { result ≡ line_of key.0 }
 {

@@ -1,77 +1,52 @@
 // A list as text, a line to a key, and as keys.
 ghost use Rattle.std.specs.Prelude.{◌≡◌, ◌*◌, ◌/◌, ◌≤◌, length};
 ghost use Rattle.common.specs.Lists.{over_front, written};
-ghost use Rattle.ccl.specs.ListText.{line_size, good_lines, key_at, read_answer, read_of, keys_after, small_keys, lines_of, write_answer, write_of, text_after};
+ghost use Rattle.ccl.specs.ListText.{line_size, good_lines, key_at, read_number, read_never_zero, read_answer, read_of, keys_after, small_keys, lines_of, write_number, write_never_zero, write_answer, write_of, text_after};
 
 use crate::line;
 use crate::line::{KEY_LIMIT, LINE};
 use card::fascn::Key;
+use common::refusal::Numbered;
 use common::slice;
-use text::form;
 
-// What read answers: how many keys, the number of the first malformed line, or that the places are too few.
-// `read_answer` gives document 01's number of each.
-#[derive(Clone, Copy)]
-pub enum ListRead {
-    Keys(usize),
+// Why a text is not read.
+#[derive(Clone, Copy, Debug, PartialEq, Eq)]
+pub enum ReadError {
+    // the number of the first malformed line, counted from 1
     Malformed(usize),
+    // the places are fewer than the keys
     TooFewPlaces,
 }
 
-// What write answers: how many keys, that a key has more than 16 digits, or that the buffer is too short. `write_answer`
-// gives document 01's number of each.
-#[derive(Clone, Copy)]
-pub enum ListWritten {
-    Keys(usize),
-    KeyTooLarge,
-    ShortBuffer,
-}
+impl Numbered for ReadError {
+    ghost number_of = { read_number };
 
-impl ListRead {
-    // Document 01's number, 0 where the text is read.
-    pub fn number(self) -> u8
-        ensures { result ≡ (read_answer self).0 }
-    {
-        match self {
-            ListRead::Keys(_) => 0,
-            ListRead::Malformed(_) => 20,
-            ListRead::TooFewPlaces => 21,
-        }
-    }
+    ghost never_zero = { read_never_zero };
 
-    // What stands beside the number: the count of keys, the number of the malformed line, or 0.
-    pub fn beside(self) -> usize
-        ensures { result ≡ (read_answer self).1 }
-    {
+    fn number(self) -> u8 {
         match self {
-            ListRead::Keys(n) => n,
-            ListRead::Malformed(n) => n,
-            ListRead::TooFewPlaces => 0,
+            ReadError::Malformed(_) => 20,
+            ReadError::TooFewPlaces => 21,
         }
     }
 }
 
-impl ListWritten {
-    // Document 01's number, 0 where the keys are written.
-    pub fn number(self) -> u8
-        ensures { result ≡ (write_answer self).0 }
-    {
-        match self {
-            ListWritten::Keys(_) => 0,
-            ListWritten::KeyTooLarge => 22,
-            ListWritten::ShortBuffer => 21,
-        }
-    }
+// Why keys are not written.
+#[derive(Clone, Copy, Debug, PartialEq, Eq)]
+pub enum WriteError {
+    // the buffer has under 32 bytes a key
+    ShortBuffer = 21,
+    // a key has more than 16 digits
+    KeyTooLarge = 22,
+}
 
-    // What stands beside the number: the count of keys, or 0.
-    pub fn beside(self) -> usize
-        ensures { result ≡ (write_answer self).1 }
-    {
-        match self {
-            ListWritten::Keys(n) => n,
-            ListWritten::KeyTooLarge => 0,
-            ListWritten::ShortBuffer => 0,
-        }
+impl Numbered for WriteError {
+    ghost number_of = { write_number };
+
+    ghost never_zero = { write_never_zero };
+
+    fn number(self) -> u8 {
+        self as u8
     }
 }
 
@@ -80,60 +55,45 @@ fn good_lines(text: &[u8]) -> usize
     ensures value { result ≡ good_lines text.now }
     ensures inside { line_size * result ≤ length text.now }
 {
-    let lowest = b"(card (0000 0000 000000) (0 0))\n";
-    let highest = b"(card (9999 9999 999999) (9 9))\n";
-    let lines = text.len() / LINE;
-    let mut n = 0;
-    while n < lines {
-        // cut out by its places: the compiler then knows that it has as many bytes as the two strings
-        let at = LINE * n;
-        let end = at + LINE;
-        if !form::between(lowest, highest, &text[at..end]) {
-            return n;
-        }
-        n += 1;
-    }
-    n
+    // `chunks_exact` with a constant: the compiler then knows that a line has as many bytes as the two strings
+    text.chunks_exact(LINE)
+        .take_while(|line| line::good_line(line))
+        .count()
 }
 
-// The keys of the first n lines, stored at the front of keys.
-fn put_keys(text: &[u8], n: usize, keys: &mut [u64])
-    requires { (line_size * n ≤ length text.now) × (n ≤ length keys.old) }
-    ensures { keys.new ≡ written keys.old 0 n (key_at text.now) }
+// The keys of the text's whole lines, stored at the front of keys.
+fn put_keys(text: &[u8], keys: &mut [u64])
+    requires { length text.now / line_size ≤ length keys.old }
+    ensures { keys.new ≡ written keys.old 0 (length text.now / line_size) (key_at text.now) }
 {
-    for i in 0..n {
-        let at = LINE * i;
-        let end = at + LINE;
-        let key = line::line_key(&text[at..end]);
-        keys[i] = key.0;
+    // the places go by an index: of a slice that `zip` lends mutably, the library promises nothing afterwards
+    for (i, line) in text.chunks_exact(LINE).enumerate() {
+        keys[i] = line::line_key(line).0;
     }
 }
 
 // The keys of a list's text, in its order, stored at the front of keys. The whole text is judged first.
-pub fn read(text: &[u8], keys: &mut [u64]) -> ListRead
+#[tactic(auto, unfolding(crate::specs::ListText::read_of, crate::specs::ListText::keys_after, crate::specs::ListText::read_refusal, crate::specs::ListText::well_formed))]
+pub fn read(text: &[u8], keys: &mut [u64]) -> Result<usize, ReadError>
     ensures result_value { read_answer result ≡ read_of text.now (length keys.old) }
     ensures keys_after { keys.new ≡ keys_after text.now keys.old }
 {
     let n = good_lines(text);
     if LINE * n != text.len() {
-        return ListRead::Malformed(n + 1);
+        return Err(ReadError::Malformed(n + 1));
     }
     if keys.len() < n {
-        return ListRead::TooFewPlaces;
+        return Err(ReadError::TooFewPlaces);
     }
-    put_keys(text, n, keys);
-    ListRead::Keys(n)
+    put_keys(text, keys);
+    Ok(n)
 }
 
-// Whether every key has at most 16 digits.
+// Whether every key has at most 16 digits. Every key is looked at: there is no early exit.
 fn small_keys(keys: &[u64]) -> bool
     ensures { result ≡ small_keys keys.now }
 {
-    let mut ok = true;
-    for i in 0..keys.len() {
-        ok = ok & (keys[i] < KEY_LIMIT);
-    }
-    ok
+    keys.iter().fold(true, |ok, key| ok & (*key < KEY_LIMIT))
 }
 
 // The lines of the keys, stored at the front of out.
@@ -141,23 +101,24 @@ fn put_lines(keys: &[u64], out: &mut [u8])
     requires { length keys.now ≤ length out.old / line_size }
     ensures { out.new ≡ over_front (lines_of keys.now) out.old }
 {
-    for i in 0..keys.len() {
-        let line = line::line_of(Key(keys[i]));
-        slice::store(out, LINE * i, &line);
+    // by an index, as in put_keys
+    for (i, key) in keys.iter().enumerate() {
+        slice::store(out, LINE * i, &line::line_of(Key(*key)));
     }
 }
 
 // The text of a list of keys, stored at the front of out.
-pub fn write(keys: &[u64], out: &mut [u8]) -> ListWritten
+#[tactic(auto, unfolding(crate::specs::ListText::write_of, crate::specs::ListText::text_after, crate::specs::ListText::write_refusal))]
+pub fn write(keys: &[u64], out: &mut [u8]) -> Result<usize, WriteError>
     ensures result_value { write_answer result ≡ write_of keys.now (length out.old) }
     ensures out_after { out.new ≡ text_after keys.now out.old }
 {
     if !small_keys(keys) {
-        return ListWritten::KeyTooLarge;
+        return Err(WriteError::KeyTooLarge);
     }
     if out.len() / LINE < keys.len() {
-        return ListWritten::ShortBuffer;
+        return Err(WriteError::ShortBuffer);
     }
     put_lines(keys, out);
-    ListWritten::Keys(keys.len())
+    Ok(keys.len())
 }

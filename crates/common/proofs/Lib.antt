@@ -19,5 +19,7 @@ pub mod NumberLaws
 pub mod DecimalLaws
 -- XorLaws: the exclusive or
 pub mod XorLaws
+-- FoldLaws: what a chain of iterators gives, by index
+pub mod FoldLaws
 -- ConditionLaws: lists of conditions with their numbers, and an answer by one test
 pub mod ConditionLaws

@@ -3,12 +3,12 @@
 -- Assumes nothing.
 use mathlib.Core.Path.{◌≡◌, refl, sym, ◌∙◌}
 use mathlib.Core.Bool.{Bool, true, ◌&&◌}
-use mathlib.Core.List.{List, append-nil}
+use mathlib.Core.List.{List, ◌++◌, append-nil}
 use Prim.Native.Nat.{ℕ, ◌+◌, ◌≤◌, ◌<◌}
 use native.Mathlib.Nat.{zero-add}
 use native.Mathlib.Omega.{arith}
-use lib.ListN.{length, set, length-set}
-use lib.Seq.{drop-length}
+use lib.ListN.{length, take, drop, set, length-set}
+use lib.Seq.{drop-length, length-take-le}
 use Rattle.common.specs.Lists.{list_of, written, all}
 use Rattle.common.proofs.ListsLaws.{written_none, written_more, all_more}
 
@@ -46,6 +46,11 @@ writing_end {l} {m} {at} {n} {i} {f} p h = let e : i ≡ n = omega (arith, p.mos
 pub writing_whole : {l m : List ℕ} {n i : ℕ} {f : ℕ → ℕ} → WrittenSoFar l 0 n f i m → n ≤ i → n ≡ length l → m ≡ list_of n f
 unfolding written
 writing_whole {l} {m} {n} {i} {f} p h e = writing_end p h ∙ rw (zero-add, e, drop-length, append-nil)
+
+-- the same where the loop goes over the first n places alone, as over `out[..n].iter_mut().enumerate()`: the rest comes back after them
+pub writing_part : (l : List ℕ) {m : List ℕ} {n i : ℕ} {f : ℕ → ℕ} → n ≤ length l → WrittenSoFar (take n l) 0 (length (take n l)) f i m → length (take n l) ≤ i → m ++ drop n l ≡ written l 0 n f
+unfolding written
+writing_part l {m} {n} {i} {f} r p h = let e : length (take n l) ≡ n = length-take-le n l r in rw (writing_whole p h refl, e, zero-add n)
 
 -- ---- tests made, one a turn
 

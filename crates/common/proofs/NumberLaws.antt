@@ -76,6 +76,10 @@ pub pow-mul : (b m n : ℕ) → (b ^ m) ^ n ≡ b ^ (m * n)
 pow-mul b m zero = rw (mul-zero, pow-zero, pow-zero)
 pow-mul b m (suc n) = rw (pow-suc, pow-mul b m n, mul-suc, pow-add)
 
+-- `1u64 << bits`
+pub one_shifted : (bits : ℕ) → bits ≤ 63 → 1 * 2 ^ bits % 18446744073709551616 ≡ 2 ^ bits
+one_shifted bits h = let l : 2 ^ bits ≤ 2 ^ 63 = pow-le-pow_right {n = 2} (lit< tt) h in omega (arith, l)
+
 -- ---- a loop that reads digits
 
 pub number_more : (b : ℕ) (f : ℕ → ℕ) (i : ℕ) {w : ℕ} → w ≡ number b i f → w * b + f i ≡ number b (i + 1) f

@@ -2,14 +2,16 @@
 -- Assumes nothing.
 use mathlib.Core.Path.{◌≡◌, sym, ap, ◌∙◌}
 use mathlib.Core.List.{List, ◌++◌, append-nil, append_assoc}
-use Prim.Native.Nat.{ℕ, ◌+◌, ◌-◌, ◌≤◌, ◌<◌}
+use Prim.Native.Nat.{ℕ, ◌+◌, ◌-◌, ◌%◌, ◌≤◌, ◌<◌}
 use native.Mathlib.Nat.{le_of_eq, le_refl}
 use native.Mathlib.Omega.{arith}
 use borrow.Author.Tests.{le-leb, lt-leb}
-use lib.ListN.{length, take, drop, length-drop, drop_of_length-le}
-use lib.Seq.{take_all, drop-drop}
-use Rattle.common.specs.Lists.{over_front, over_places, over_places_where}
-use Rattle.common.proofs.ListsLaws.{over_first, over_next, length_front}
+use lib.ListN.{length, get_or, take, drop, length-drop, drop_of_length-le}
+use borrow.Rule.Slice.PartMut.{put_mid}
+use lib.Seq.{take_all, drop-drop, length-take-le, get_or-take, get_or-drop}
+use Rattle.common.specs.Lists.{list_of, number, written, over_front, over_places, over_places_where}
+use Rattle.common.proofs.NumberLaws.{number_ext}
+use Rattle.common.proofs.ListsLaws.{list_of_is, over_first, over_next, length_front}
 
 -- all of it fits, or not
 pub store_fits : (l s : List ℕ) (at : ℕ) → at + length s ≤ length l → over_places_where l at s ≡ over_places l at s
@@ -46,3 +48,38 @@ pub store_next : (p s d : List ℕ) {l : List ℕ} {n : ℕ} → l ≡ over_fron
     → over_places_where l n s ≡ over_front (p ++ s) d
 store_next p s d {l} {n} e k h =
     store_fits l s n (omega (arith, k, ap length e ∙ length_front p d (omega arith))) ∙ over_next p s d e k
+
+-- ---- a run of one list copied over places of another, as by `d[at..at + n].copy_from_slice(&s[from..from + n])`
+
+-- a run of a list, by its numbers
+pub run_is : (s : List ℕ) (from n : ℕ) → from + n ≤ length s → take n (drop from s) ≡ list_of n (λ j. get_or s (from + j) 0)
+run_is s from n h =
+    sym (list_of_is n (λ j. get_or s (from + j) 0) (take n (drop from s)) (length-take-le n (drop from s) (omega (arith, h, length-drop from s)))
+    (λ i l. sym (get_or-take n (drop from s) i 0 l ∙ get_or-drop from s i 0)))
+
+pub run_copied : (d s : List ℕ) (at from n : ℕ) {l : List ℕ} → from + n ≤ length s → l ≡ take ((from + n) - from) (drop from s)
+    → put_mid at ((at + n) - at) d l ≡ written d at n (λ j. get_or s (from + j) 0)
+unfolding written
+run_copied d s at from n h e =
+    let k : (at + n) - at ≡ n = omega arith in
+    let m : (from + n) - from ≡ n = omega arith in
+    rw (e, k, m, run_is s from n h, drop-drop) (sym (append_assoc (take at d) (list_of n (λ j. get_or s (from + j) 0)) (drop (at + n) d)))
+
+-- a part of a list written anew, as by a call that is lent `&mut d[at..at + n]`
+pub part_written : (d : List ℕ) (at n : ℕ) (f : ℕ → ℕ) {l : List ℕ} → l ≡ list_of n f → put_mid at ((at + n) - at) d l ≡ written d at n f
+unfolding written
+part_written d at n f e =
+    let k : (at + n) - at ≡ n = omega arith in
+    rw (e, k, drop-drop) (sym (append_assoc (take at d) (list_of n f) (drop (at + n) d)))
+
+-- a part of a list that is only read, as `&s[at..at + n]`: how long it is, and its numbers
+pub length_part : (s : List ℕ) (at n : ℕ) → at + n ≤ length s → length (take ((at + n) - at) (drop at s)) ≡ n
+length_part s at n h = length-take-le _ (drop at s) (omega (arith, h, length-drop at s)) ∙ omega arith
+
+pub part_at : (s : List ℕ) (at n j : ℕ) → j < n → get_or (take ((at + n) - at) (drop at s)) j 0 ≡ get_or s (at + j) 0
+part_at s at n j h = get_or-take _ (drop at s) j 0 (omega arith) ∙ get_or-drop at s j 0
+
+-- the number whose digits are those of a part, by the places of the whole
+pub number_part : (s : List ℕ) (at n b : ℕ) {w : ℕ} → at + n ≤ length s
+    → w ≡ number b (length (take ((at + n) - at) (drop at s))) (λ j. get_or (take ((at + n) - at) (drop at s)) j 0 % b) → w ≡ number b n (λ j. get_or s (at + j) 0 % b)
+number_part s at n b h e = rw (length_part s at n h) at e ∙ number_ext b n (λ j l. ap (λ (x : ℕ). x % b) (part_at s at n j l))

@@ -5,7 +5,5 @@ pub mod Lists
 pub mod Decimal
 -- Refusal: the first condition of a list that fits
 pub mod Refusal
--- SliceCode: how the code goes about looking for a byte; no public contract cites it
-pub mod SliceCode
 -- Bytes: where a byte stands in a list
 pub mod Bytes

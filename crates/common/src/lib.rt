@@ -2,5 +2,5 @@
 // found and stored.
 #![tactic(auto)]
 
-pub mod number;
+pub mod refusal;
 pub mod slice;

@@ -1,7 +1,8 @@
-// Runs the example scripts that its arguments name, each as the gate program would: prints the name, then what the gate program prints. The expected output, in
-// the file `stdout`, is written from the documents.
+// Runs the example scripts that its arguments name, each as the gate program would: prints the name, then what the gate
+// program prints. The expected output, in the file `stdout`, is written from the documents.
 #![tactic(auto)]
 
+use append::Text;
 use std::env::{Env, FillError};
 use std::fs::File;
 use std::io::{Error, Write};
@@ -9,16 +10,20 @@ use std::io::{Error, Write};
 // The most bytes of a name; one that has more is taken as empty, which no script has.
 const NAME: usize = 4096;
 
-// A line on standard error: the name, and why its script is not run. Where that takes no more, nothing can be said of it.
-fn complain(rt: &HostRuntime, name: &[u8], why: &str) {
-    let mut errors = rt.stderr();
-    let _named = errors.write_all(name).is_ok();
-    let _parted = errors.write_all(b": ").is_ok();
-    let _said = errors.write_all(why.as_bytes()).is_ok();
-    let _ended = errors.write_all(b"\n").is_ok();
+// The parts of a line, one after another. Where the stream takes no more, nothing can be said of it.
+fn write_line<W: Write>(to: &mut W, parts: &[&[u8]]) {
+    for part in parts {
+        let _taken = to.write_all(part).is_ok();
+    }
 }
 
-// The system's words for an error, without its number.
+// A line on standard error: the name, and why its script is not run.
+fn complain(rt: &HostRuntime, name: &[u8], why: &str) {
+    write_line(&mut rt.stderr(), &[name, b": ", why.as_bytes(), b"\n"]);
+}
+
+// The system's words for an error, without its number. On the heap, as the core never is: Display of an error is cut as
+// a String, in a program that only runs examples.
 fn complain_of(rt: &HostRuntime, name: &[u8], error: Error) {
     match format!(in rt.alloc(); "{error}") {
         Ok(said) => match said.as_str().split_once(" (os error ") {
@@ -33,31 +38,46 @@ fn run_script(
     rt: &HostRuntime,
     name: &[u8],
     input: &mut [u8; gate_stream::READ],
-    out: &mut [u8; gate_stream::OUT],
+    out: &mut Text<{ gate_stream::OUT }>,
 ) {
-    let _named = rt.stdout().write_all(name).is_ok();
-    let _ended = rt.stdout().write_all(b"\n").is_ok();
-    match str::from_utf8(name) {
-        Ok(path) => match File::open(rt, path) {
-            Ok(mut script) => {
-                gate_stream::run_gate(&mut script, &mut rt.stdout(), &mut rt.stderr(), input, out);
-            }
-            Err(error) => complain_of(rt, name, error),
-        },
-        Err(_) => complain(rt, name, "the name is not UTF-8"),
+    write_line(&mut rt.stdout(), &[name, b"\n"]);
+    let Ok(path) = str::from_utf8(name) else {
+        return complain(rt, name, "the name is not UTF-8");
+    };
+    match File::open(rt, path) {
+        Ok(mut script) => {
+            // how it ended stands on standard error
+            let _end = gate_stream::run_gate(
+                &mut script,
+                &mut rt.stdout(),
+                &mut rt.stderr(),
+                input,
+                out,
+            );
+        }
+        Err(error) => complain_of(rt, name, error),
+    }
+}
+
+// The name that argument i is; None past the last one.
+fn name_of<'a>(rt: &HostRuntime, i: usize, buffer: &'a mut [u8; NAME]) -> Option<&'a [u8]> {
+    match rt.arg(i, buffer) {
+        Ok(n) => Some(&buffer[..n]),
+        // the empty name is no script's: an Option of a Result for this one case would be no plainer
+        Err(FillError::TooLong) => Some(b""),
+        Err(FillError::NotPresent) => None,
     }
 }
 
 fn main(rt: HostRuntime) {
     let mut input = [0u8; gate_stream::READ];
-    let mut out = [0u8; gate_stream::OUT];
-    let mut name = [0u8; NAME];
+    let mut out = Text::new();
+    let mut buffer = [0u8; NAME];
+    // by their numbers: the library's iterator over arguments fails where one is not UTF-8
     for i in 1..usize::MAX {
-        let n = match rt.arg(i, &mut name) {
-            Ok(n) => n,
-            Err(FillError::TooLong) => 0,
-            Err(FillError::NotPresent) => return,
+        let Some(name) = name_of(&rt, i, &mut buffer) else {
+            return;
         };
-        run_script(&rt, &name[..n], &mut input, &mut out);
+        run_script(&rt, name, &mut input, &mut out);
     }
 }

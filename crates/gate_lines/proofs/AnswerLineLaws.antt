@@ -29,10 +29,8 @@ use Rattle.session.proofs.RunLaws.{zero_or}
 use Rattle.session.proofs.Invariant.{Invariant}
 use Rattle.session.proofs.PromiseLaws.{reached, promise}
 use Rattle.gate_lines.specs.Line.{GateLine, line_in}
-use Rattle.gate_lines.specs.Gate.{Gate, gate_after, has_room, command_room, commanded, fresh, reply_by, reply_to}
+use Rattle.gate_lines.specs.Gate.{Gate, gate_after, has_room, command_room, commanded, fresh, Reply, reply_by, reply_to}
 use Rattle.gate_lines.specs.Run.{run_lines, command_call, SinceOpen, with_calls, Reached, number_for, ended, answer_for}
-use Rattle.gate_lines.specs.declared.state.LineReply.{LineReply}
-use Rattle.gate_lines.specs.declared.state.LineReply.TheVariants.{Ok, Refused, Bad}
 
 -- ---- the command has room
 
@@ -135,15 +133,15 @@ run_size (l ∷ ls) g = run_size ls (gate_after g (line_in l)) ∙ line_size_lem
 -- ---- so 7 is never an answer line's number
 
 -- the number in what a line prints
-abbrev number_in : LineReply → ℕ
-number_in Ok = 0
-number_in (Refused n) = n
-number_in Bad = 0
+abbrev number_in : Reply → ℕ
+number_in Reply.ok = 0
+number_in (Reply.refused n) = n
+number_in Reply.bad = 0
 
 number_by : (k : ℕ) → number_in (reply_by k) ≡ k
 number_by k = by (eqb k 0) refl
   where
-    by : (b : Bool) → eqb k 0 ≡ b → number_in (cond b Ok (Refused k)) ≡ k
+    by : (b : Bool) → eqb k 0 ≡ b → number_in (cond b Reply.ok (Reply.refused k)) ≡ k
     by true e = sym (eqb-true k 0 e)
     by false e = refl
 
@@ -172,14 +170,14 @@ Sized g (GateLine.answer bytes) = length g.object ≡ object_size
 Sized g (GateLine.verdict kind yes_no fascn) = Unit
 Sized g GateLine.bad = Unit
 
-seven : {k : ℕ} {r : LineReply} → r ≡ reply_by k → r ≡ Refused 7 → k ≡ 7
+seven : {k : ℕ} {r : Reply} → r ≡ reply_by k → r ≡ Reply.refused 7 → k ≡ 7
 seven {k} e z = sym (number_by k) ∙ ap number_in (sym e ∙ z)
 
-pub line_not_seven : (g : Gate) (line : GateLine) (reply : LineReply) → Sized g line → reply ≡ reply_to g line → reply ≡ Refused 7 → ⊥
+pub line_not_seven : (g : Gate) (line : GateLine) (reply : Reply) → Sized g line → reply ≡ reply_to g line → reply ≡ Reply.refused 7 → ⊥
 unfolding reply_to
 line_not_seven g (GateLine.card key) reply size e z = by (has_room g) (ap number_in (sym e ∙ z))
   where
-    by : (b : Bool) → number_in (cond b Ok Bad) ≡ 7 → ⊥
+    by : (b : Bool) → number_in (cond b Reply.ok Reply.bad) ≡ 7 → ⊥
     by true q = let n : ◌≡◌ {A = ℕ} 0 7 = q in omega arith
     by false q = let n : ◌≡◌ {A = ℕ} 0 7 = q in omega arith
 line_not_seven g (GateLine.opening mode date aid) reply size e z = opening_not_seven mode date aid (seven e z)
@@ -188,5 +186,5 @@ line_not_seven g (GateLine.verdict kind yes_no fascn) reply size e z = verdict_n
 line_not_seven g GateLine.bad reply size e z = let n : ◌≡◌ {A = ℕ} 0 7 = ap number_in (sym e ∙ z) in omega arith
 
 -- with an object buffer of the right size, after every list of lines
-pub never_seven : (object : List ℕ) (ls : List (List ℕ)) (bytes : List ℕ) → length object ≡ object_size → reply_to (run_lines (fresh object) ls) (GateLine.answer bytes) ≡ Refused 7 → ⊥
+pub never_seven : (object : List ℕ) (ls : List (List ℕ)) (bytes : List ℕ) → length object ≡ object_size → reply_to (run_lines (fresh object) ls) (GateLine.answer bytes) ≡ Reply.refused 7 → ⊥
 never_seven object ls bytes size = line_not_seven (run_lines (fresh object) ls) (GateLine.answer bytes) _ (run_size ls (fresh object) ∙ size) refl

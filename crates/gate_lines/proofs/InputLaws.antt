@@ -3,14 +3,12 @@
 use mathlib.Core.Path.{◌≡◌, refl, sym, ap, ap₂, subst, ◌∙◌}
 use mathlib.Core.Bool.{Bool, true, false}
 use mathlib.Core.List.{List, [], ◌∷◌, ◌++◌, append_assoc, append-nil}
-use Prim.Native.Nat.{ℕ, zero, suc, min, ◌+◌, ◌-◌, ◌≤◌, ◌<◌}
+use Prim.Native.Nat.{ℕ, zero, suc, ◌+◌, ◌-◌, ◌≤◌, ◌<◌}
 use native.Mathlib.Omega.{arith}
-use borrow.Author.Tests.{ltb-true, ltb-false, ne_eqb}
-use lib.Dec.{eqb, ltb}
-use lib.ListN.{length, get_or, take, drop, length-append, length-take, length-drop}
-use lib.Seq.{take_all, take-nil, take_at, take-append-add, length-take-le, get_or-take, get_or-drop}
-use Rattle.common.specs.Lists.{list_of, written}
-use Rattle.common.proofs.ListsLaws.{length-list_of, list_of_is, written_none, length-written}
+use borrow.Author.Tests.{ne_eqb}
+use lib.Dec.{eqb}
+use lib.ListN.{length, take, drop, length-take, length-drop}
+use lib.Seq.{take_all, take-nil}
 use Rattle.common.specs.Bytes.{index_of}
 use Rattle.gate_lines.proofs.LineLaws.{line_held}
 use Rattle.gate_lines.proofs.PrintedLaws.{run_printed, run_output}
@@ -18,7 +16,7 @@ use Rattle.gate_lines.specs.Line.{longest, line_in}
 use Rattle.gate_lines.specs.Gate.{Gate, gate_after, reply_to, reply_text, fresh, end_text}
 use Rattle.gate_lines.specs.Run.{run_lines, printed, output, SinceOpen, since_open, printed_for, end_for}
 use Rattle.gate_lines.specs.Input.{Cut, cut_byte, cut, last_line, cut_of, lines_in, most_held, InputState, input_start, input_after_byte, text_of_byte, input_after, text_of_input, last_gate, last_text, FeedPromise, LastPromise}
-use Rattle.gate_lines.specs.InputCode.{part_from, held_after, line_after}
+use Rattle.gate_lines.specs.InputCode.{part_from}
 use Rattle.common.proofs.PlaceLaws.{NoEnd, none_before, with_end}
 
 -- ---- one block after another
@@ -74,116 +72,33 @@ unfolding text_of_input
 line_text_lem s m n h =
     text_append s (0x0A ∷ []) m ∙ ap₂ (λ (t : List ℕ) (k : InputState). t ++ text_of_input k (0x0A ∷ [])) (run_text s m n) (feed_run s m n h) ∙ append-nil _
 
--- ---- how the code holds a line
-
--- the bytes that are added, as far as there is room
-added : (block : List ℕ) (from n room : ℕ) → from + n ≤ length block
-    → list_of (min n room) (λ j. get_or block (from + j) 0) ≡ take room (take n (drop from block))
-added block from n room h =
-    let part = take n (drop from block) in
-    let e : length part ≡ n = length-take-le n (drop from block) (omega (arith, length-drop from block)) in
-    list_of_is (min n room) _ (take room part) (omega (arith, length-take room part))
-    (λ i b. sym (get_or-take room part i 0 (omega arith) ∙ get_or-take n (drop from block) i 0 (omega arith) ∙ get_or-drop from block i 0))
-
--- where there is room, and where there is none
-held_room : (line : List ℕ) (held : ℕ) (block : List ℕ) (from n : ℕ) → held ≤ most_held → length line ≡ most_held → from + n ≤ length block
-    → take (held_after held n) (line_after line held block from n) ≡ take most_held (take held line ++ take n (drop from block))
-unfolding held_after line_after written
-held_room line held block from n q e h =
-    let p = take held line in
-    let part = take n (drop from block) in
-    let l : length p ≡ held = length-take-le held line (omega arith) in
-    let most : most_held ≡ length p + (most_held - held) = omega arith in
-    let k = min n (most_held - held) in
-    let new = list_of k (λ j. get_or block (from + j) 0) in
-    let rest = drop (held + k) line in
-    take_at (p ++ new) rest (held + k) (length-append p new ∙ ap₂ ◌+◌ l (length-list_of _ _))
-    ∙ ap (λ (x : List ℕ). p ++ x) (added block from n (most_held - held) h)
-    ∙ sym (ap (λ (x : ℕ). take x (p ++ part)) most ∙ take-append-add p part (most_held - held))
-
-held_full : (line : List ℕ) (held : ℕ) (block : List ℕ) (from n : ℕ) → most_held < held → length line ≡ most_held
-    → take (held_after held n) (line_after line held block from n) ≡ take most_held (take held line ++ take n (drop from block))
-unfolding held_after line_after
-held_full line held block from n k e =
-    let z : min n (most_held - held) ≡ 0 = omega arith in
-    rw (z, written_none, take_all held line (omega arith), take_all (held + 0) line (omega arith), take_at line (take n (drop from block)) most_held e)
-
-held_by : (line : List ℕ) (held : ℕ) (block : List ℕ) (from n : ℕ) (t : Bool) → ltb most_held held ≡ t → length line ≡ most_held → from + n ≤ length block
-    → take (held_after held n) (line_after line held block from n) ≡ take most_held (take held line ++ take n (drop from block))
-held_by line held block from n true t e h = held_full line held block from n (ltb-true _ _ t) e
-held_by line held block from n false t e h = held_room line held block from n (ltb-false _ _ t) e h
-
-pub held_after_lem : (line : List ℕ) (held : ℕ) (block : List ℕ) (from n : ℕ) → length line ≡ most_held → from + n ≤ length block
-    → take (held_after held n) (line_after line held block from n) ≡ take most_held (take held line ++ take n (drop from block))
-held_after_lem line held block from n = held_by line held block from n (ltb most_held held) refl
-
--- the buffer is as long as it was
-length_by : (line : List ℕ) (held : ℕ) (block : List ℕ) (from n : ℕ) (t : Bool) → ltb most_held held ≡ t → length line ≡ most_held
-    → length (line_after line held block from n) ≡ most_held
-unfolding line_after
-length_by line held block from n true t e =
-    let h : most_held < held = ltb-true _ _ t in
-    let z : min n (most_held - held) ≡ 0 = omega arith in
-    rw (z, written_none) e
-length_by line held block from n false t e =
-    let h : held ≤ most_held = ltb-false _ _ t in
-    length-written line held (min n (most_held - held)) _ (omega arith) ∙ e
-
-pub length_then : (line : List ℕ) (held : ℕ) (block : List ℕ) (from n : ℕ) → length line ≡ most_held → length (line_after line held block from n) ≡ most_held
-length_then line held block from n = length_by line held block from n (ltb most_held held) refl
-
 -- ---- a part of a block fed: from place `from` on, with the first 0A at place `end`, or none
 
--- what is held of the line then
-abbrev pub held_to : List ℕ → ℕ → List ℕ → ℕ → ℕ → List ℕ
-held_to line held block from end = take (held_after held (end - from)) (line_after line held block from (end - from))
-
--- the bytes before `end`, and how many
-ends_at : (block : List ℕ) (from end : ℕ) → end ≡ from + index_of 0x0A (drop from block) → end - from ≡ index_of 0x0A (drop from block)
-ends_at block from end e = omega (arith, e)
-
-held_to_lem : (line : List ℕ) (held : ℕ) (block : List ℕ) (from end : ℕ) → length line ≡ most_held → end ≡ from + index_of 0x0A (drop from block) → end ≤ length block
-    → take most_held (take held line ++ take (index_of 0x0A (drop from block)) (drop from block)) ≡ held_to line held block from end
-held_to_lem line held block from end l e h = rw (ends_at block from end e) (sym (held_after_lem line held block from (index_of 0x0A (drop from block)) l (omega (arith, e))))
-
-line_within : (line : List ℕ) (held : ℕ) → length line ≡ most_held → length (take held line) ≤ most_held
-line_within line held l = omega (arith, length-take held line)
+-- the bytes before `end`
+bytes_before : (block : List ℕ) (from end : ℕ) → end ≡ from + index_of 0x0A (drop from block) → take (end - from) (drop from block) ≡ take (index_of 0x0A (drop from block)) (drop from block)
+bytes_before block from end e = let n : end - from ≡ index_of 0x0A (drop from block) = omega (arith, e) in rw n
 
 -- where the block ends first, the bytes are held
-pub part_run : (g : Gate) (line : List ℕ) (held : ℕ) (block : List ℕ) (from end : ℕ) → length line ≡ most_held → end ≡ from + index_of 0x0A (drop from block)
-    → end ≤ length block
-    → (input_after (record { gate = g; held = take held line }) (part_from block from end)
-    ≡ record { gate = g; held = held_to line held block from end })
-    × (text_of_input (record { gate = g; held = take held line }) (part_from block from end) ≡ [])
+pub part_run : (m : InputState) (block : List ℕ) (from end : ℕ) → length m.held ≤ most_held → end ≡ from + index_of 0x0A (drop from block)
+    → (input_after m (part_from block from end) ≡ record { gate = m.gate; held = take most_held (m.held ++ take (end - from) (drop from block)) })
+    × (text_of_input m (part_from block from end) ≡ [])
 unfolding part_from
-part_run g line held block from end l e h =
-    let m : InputState = record { gate = g; held = take held line } in
-    let s = drop from block in
-    let part : take (end - from) s ≡ take (index_of 0x0A s) s = ap (λ (n : ℕ). take n s) (ends_at block from end e) in (
-      ap (input_after m) part ∙ feed_run (take (index_of 0x0A s) s) m (none_before s) (line_within line held l)
-          ∙ ap (λ (x : List ℕ). record { gate = g; held = x }) (held_to_lem line held block from end l e h),
-      ap (text_of_input m) part ∙ run_text (take (index_of 0x0A s) s) m (none_before s),
-    )
+part_run m block from end l e =
+    let n : NoEnd (take (end - from) (drop from block)) = subst NoEnd (sym (bytes_before block from end e)) (none_before (drop from block)) in
+    (feed_run (take (end - from) (drop from block)) m n l, run_text (take (end - from) (drop from block)) m n)
 
 -- where a 0A ends the line, the line is done
-pub part_line : (g : Gate) (line : List ℕ) (held : ℕ) (block : List ℕ) (from end : ℕ) → length line ≡ most_held → end ≡ from + index_of 0x0A (drop from block)
-    → end < length block
-    → (input_after (record { gate = g; held = take held line }) (part_from block from (end + 1))
-    ≡ record { gate = gate_after g (line_in (held_to line held block from end)); held = [] })
-    × (text_of_input (record { gate = g; held = take held line }) (part_from block from (end + 1))
-    ≡ reply_text (reply_to g (line_in (held_to line held block from end))))
+pub part_line : (m : InputState) (block : List ℕ) (from end : ℕ) → length m.held ≤ most_held → end ≡ from + index_of 0x0A (drop from block) → end < length block
+    → (input_after m (part_from block from (end + 1)) ≡ record { gate = gate_after m.gate (line_in (take most_held (m.held ++ take (end - from) (drop from block)))); held = [] })
+    × (text_of_input m (part_from block from (end + 1)) ≡ reply_text (reply_to m.gate (line_in (take most_held (m.held ++ take (end - from) (drop from block))))))
 unfolding part_from
-part_line g line held block from end l e h =
-    let m : InputState = record { gate = g; held = take held line } in
+part_line m block from end l e h =
     let s = drop from block in
+    let n : NoEnd (take (end - from) s) = subst NoEnd (sym (bytes_before block from end e)) (none_before s) in
     let all : end + 1 - from ≡ index_of 0x0A s + 1 = omega (arith, e) in
-    let part : take (end + 1 - from) s ≡ take (index_of 0x0A s) s ++ (0x0A ∷ []) =
-    ap (λ (n : ℕ). take n s) all ∙ with_end s (omega (arith, e, length-drop from block)) in
-    let to = held_to_lem line held block from end l e (omega arith) in (
-      ap (input_after m) part ∙ feed_line (take (index_of 0x0A s) s) m (none_before s) (line_within line held l)
-          ∙ ap (λ (x : List ℕ). record { gate = gate_after g (line_in x); held = [] }) to,
-      ap (text_of_input m) part ∙ line_text_lem (take (index_of 0x0A s) s) m (none_before s) (line_within line held l) ∙ ap (λ (x : List ℕ). reply_text (reply_to g (line_in x))) to,
-    )
+    let part : take (end + 1 - from) s ≡ take (end - from) s ++ (0x0A ∷ []) =
+    ap (λ (k : ℕ). take k s) all ∙ with_end s (omega (arith, e, length-drop from block)) ∙ ap (λ (x : List ℕ). x ++ (0x0A ∷ [])) (sym (bytes_before block from end e)) in
+    (ap (input_after m) part ∙ feed_line (take (end - from) s) m n l, ap (text_of_input m) part ∙ line_text_lem (take (end - from) s) m n l)
 
 -- ---- one list of lines after another
 

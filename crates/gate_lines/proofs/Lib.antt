@@ -1,11 +1,12 @@
 -- Laws of this crate's definitions.
 -- LineLaws: a line as a value
 -- LineTextLaws: the text of such a value
--- ReplyTextLaws: texts put together
--- LentLaws: what a line lends to a call
+-- ReplyTextLaws: what is printed at once, put together
+-- LentLaws: what a line lends to a call, and a card that is kept
 -- LineRunLaws: a line of each kind
 -- RunLaws: the promise over every list of lines
 -- PrintedLaws: what a line prints, by the reading
+-- EndLaws: what is printed at the end
 -- AnswerLineLaws: an answer line is never declined for want of room
 -- InputLaws: the input cut into lines, in whatever blocks it arrives
 -- LinesLaws: lines put together, and cut again
@@ -18,6 +19,7 @@ pub mod LentLaws
 pub mod LineRunLaws
 pub mod RunLaws
 pub mod PrintedLaws
+pub mod EndLaws
 pub mod AnswerLineLaws
 pub mod InputLaws
 pub mod LinesLaws

@@ -15,9 +15,8 @@ use Rattle.session.proofs.RefusedLaws.{answer_unchanged, verdict_unchanged, answ
 use Rattle.session.proofs.RunLaws.{zero_or}
 use Rattle.session.proofs.PromiseLaws.{number_next}
 use Rattle.gate_lines.specs.Line.{GateLine, line_in}
-use Rattle.gate_lines.specs.Gate.{Gate, gate_after, command_room, fresh, reply_by, reply_to, reply_text}
+use Rattle.gate_lines.specs.Gate.{Gate, gate_after, command_room, fresh, Reply, reply_by, reply_to, reply_text}
 use Rattle.gate_lines.specs.Run.{run_lines, printed, output, command_call, SinceOpen, since_line, since_open, with_calls, ReachedBy, Reached, number_for, reply_for, printed_for, end_for, ReplyPromise}
-use Rattle.gate_lines.specs.declared.state.LineReply.{LineReply}
 use Rattle.gate_lines.proofs.AnswerLineLaws.{answer_line_number}
 use Rattle.gate_lines.proofs.RunLaws.{command_reached, refused_by_four, command_leaves, line_reaches, line_bytes, run_reaches, run_end}
 
@@ -73,7 +72,7 @@ reply_reached t u g (GateLine.verdict kind yes_no fascn) l e =
 reply_reached t u g GateLine.bad l e = refl
 
 -- as the contract of the code carries it
-pub reply_promise : (g : Gate) (line : GateLine) (reply : LineReply) → reply ≡ reply_to g line → ReplyPromise g line reply
+pub reply_promise : (g : Gate) (line : GateLine) (reply : Reply) → reply ≡ reply_to g line → ReplyPromise g line reply
 reply_promise g line reply e object ls from =
     let t = since_open (fresh object) ls in
     let u = run_lines (fresh object) ls in
@@ -89,7 +88,7 @@ printed_reached : (ls : List (List ℕ)) (g : Gate) (t : SinceOpen) → Reached 
 unfolding printed printed_for
 printed_reached [] g t l = refl
 printed_reached (x ∷ ls) g t l =
-    ap₂ (λ (r : LineReply) (s : List ℕ). reply_text r ++ s) (reply_reached t g g (line_in x) l refl)
+    ap₂ (λ (r : Reply) (s : List ℕ). reply_text r ++ s) (reply_reached t g g (line_in x) l refl)
     (printed_reached ls (gate_after g (line_in x)) (since_line g t (line_in x)) (line_reaches g t (line_in x) (line_bytes x) l))
 
 pub run_printed : (object : List ℕ) (ls : List (List ℕ)) → printed (fresh object) ls ≡ printed_for (fresh object) SinceOpen.none ls

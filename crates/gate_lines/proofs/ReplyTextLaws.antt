@@ -1,45 +1,52 @@
--- Text that grows at its end: the parts of a text, how long a text is, and digits.
+-- Texts put together of parts, how long they are, and a number below 1,000 in decimal.
 -- Assumes nothing.
-use mathlib.Core.Path.{◌≡◌, refl, sym, ap, ap₂, ◌∙◌}
+use mathlib.Core.Path.{◌≡◌, refl, ap, ◌∙◌}
 use mathlib.Core.Bool.{Bool, true, false, cond}
 use mathlib.Core.List.{List, [], ◌∷◌, ◌++◌}
-use Prim.Native.Nat.{ℕ, ◌+◌, ◌*◌, ◌/◌, ◌≤◌, min}
-use native.Mathlib.Nat.{le_of_eq}
+use Prim.Native.Nat.{ℕ, ◌+◌, ◌/◌, ◌%◌, ◌≤◌, ◌<◌}
 use native.Mathlib.Omega.{arith}
+use borrow.Author.Tests.{ltb-true, ltb-false}
 use lib.Dec.{ltb}
-use lib.ListN.{length, replicate, length-append, length-replicate}
-use lib.Seq.{take_at}
-use Rattle.common.specs.Lists.{over_front, written}
-use Rattle.common.proofs.ListsLaws.{over_next, length_front}
-use Rattle.session.specs.Tables.{stamp_size}
-use Rattle.common.proofs.StoreLaws.{front_all}
-use Rattle.text.specs.Hex.{hex_digit_at, hex_of}
-use Rattle.text.proofs.HexLaws.{length_hex, front_hex}
-use Rattle.gate_lines.specs.Gate.{decimal_digit, decimal_text, refused_head, closing, refused_text, reply_text, text_size, text_of, text_in}
-use Rattle.gate_lines.specs.GateCode.{text_with, TextFits, unprinted, printed_digits}
-use Rattle.gate_lines.specs.declared.state.Text.{Text}
-use Rattle.gate_lines.specs.declared.state.LineReply.{LineReply}
-use Rattle.gate_lines.specs.declared.state.LineReply.TheVariants.{Ok, Refused, Bad}
+use lib.ListN.{length, length-append}
+use Rattle.append.specs.Append.{added, number_text}
+use Rattle.append.proofs.AppendLaws.{added_on, added_all, number_small, number_large}
+use Rattle.session.specs.Tables.{since, stamp_size}
+use Rattle.text.specs.Hex.{hex_of}
+use Rattle.text.proofs.HexLaws.{length_hex}
+use Rattle.gate_lines.specs.Gate.{decimal_digit, decimal_text, refused_head, closing, text_size, stamp_opens}
 
--- ---- a text made of parts
+-- ---- a number in decimal
 
--- its bytes are those that it was made of
-pub text_in_lem : (s : List ℕ) {t : Text} → t ≡ text_of s → text_in t ≡ s
-unfolding over_front
-text_in_lem s e = rw e (take_at s _ (length s) refl)
+-- a number below 1,000 has the digits that the definition of `(refused N)` has
+pub number_decimal : (n : ℕ) → n < 1000 → number_text n ≡ decimal_text n
+unfolding decimal_text
+number_decimal n h = by (ltb n 10) (ltb n 100) refl refl
+  where
+    large : 10 ≤ n → number_text n ≡ number_text (n / 10) ++ ((48 + n % 10) ∷ [])
+    large l = number_large n l (omega (arith, h))
 
--- one that is no longer than the most fits
-pub text_fits : (s : List ℕ) (n : ℕ) {t : Text} → t ≡ text_of s → length s + n ≤ text_size → TextFits t n
-text_fits s n e h =
-    let d : List ℕ = replicate text_size 0 in
-    let zeros : length d ≡ text_size = length-replicate text_size 0 in
-    rw e (length_front s d (omega (arith, zeros, h)) ∙ zeros, h)
+    small : (x : ℕ) → x < 10 → number_text x ≡ decimal_digit x ∷ []
+    small x l = let e : x ≡ x % 10 = omega (arith, l) in number_small x l ∙ ap (λ (y : ℕ). (48 + y) ∷ []) e
 
--- another part after it
-pub text_with_lem : (p s : List ℕ) {t r : Text} → t ≡ text_of p → r ≡ text_with t s → r ≡ text_of (p ++ s)
-text_with_lem p s e f =
-    f ∙ ap (λ (x : Text). text_with x s) e
-    ∙ ap₂ (λ (b : List ℕ) (n : ℕ). record { bytes = b; len = n }) (over_next p s (replicate text_size 0) refl refl) (sym (length-append p s))
+    by : (a b : Bool) → ltb n 10 ≡ a → ltb n 100 ≡ b → number_text n
+        ≡ cond a (decimal_digit n ∷ []) (cond b (decimal_digit (n / 10) ∷ decimal_digit n ∷ []) (decimal_digit (n / 100) ∷ decimal_digit (n / 10) ∷ decimal_digit n ∷ []))
+    by true b p q = small n (ltb-true n 10 p)
+    by false true p q =
+        let l = ltb-true n 100 q in
+        large (ltb-false n 10 p) ∙ ap (λ (t : List ℕ). t ++ (decimal_digit n ∷ [])) (small (n / 10) (omega (arith, l)))
+    by false false p q =
+        let l = ltb-false n 100 q in
+        let e : n / 10 / 10 ≡ n / 100 = omega arith in
+        let tens : number_text (n / 10) ≡ decimal_digit (n / 100) ∷ decimal_digit (n / 10) ∷ [] =
+        number_large (n / 10) (omega (arith, l)) (omega (arith, h)) ∙ ap (λ (t : List ℕ). t ++ (decimal_digit (n / 10) ∷ [])) (ap number_text e ∙ small (n / 100) (omega (arith, h))) in
+        large (ltb-false n 10 p) ∙ ap (λ (t : List ℕ). t ++ (decimal_digit n ∷ [])) tens
+
+-- ---- three parts
+
+-- the parts of a text that has room for all three
+pub three_parts : (n : ℕ) (a b c : List ℕ) {t x y z : List ℕ} → t ≡ [] → x ≡ added n t a → y ≡ added n x b → z ≡ added n y c → length (a ++ b ++ c) ≤ n → z ≡ a ++ b ++ c
+three_parts n a b c d e f g h =
+    g ∙ ap (λ (t : List ℕ). added n t c) (f ∙ ap (λ (t : List ℕ). added n t b) (e ∙ ap (λ (t : List ℕ). added n t a) d) ∙ added_on n [] a b) ∙ added_on n [] (a ++ b) c ∙ added_all n [] (a ++ b ++ c) (omega (arith, h))
 
 -- ---- how long a text is
 
@@ -57,29 +64,10 @@ length_decimal n = by (ltb n 10) (ltb n 100)
     by false true = omega arith
     by false false = omega arith
 
--- what a line prints is no longer than the most
-pub reply_fits : (r : LineReply) → length (reply_text r) + 0 ≤ text_size
-unfolding reply_text refused_text
-reply_fits Ok = omega (arith, text_room)
-reply_fits Bad = omega (arith, text_room)
-reply_fits (Refused n) = omega (arith, text_room, length-append refused_head (decimal_text n), length-append (refused_head ++ decimal_text n) closing, length_decimal n)
+pub refused_fits : (n : ℕ) → length (refused_head ++ decimal_text n ++ closing) ≤ text_size
+refused_fits n = omega (arith, text_room, length-append refused_head (decimal_text n), length-append (refused_head ++ decimal_text n) closing, length_decimal n)
 
--- ---- digits
-
--- the digits of a number from the first that is printed on
-pub digits-printed : (n : ℕ) → printed_digits n (unprinted n) ≡ decimal_text n
-unfolding unprinted decimal_text
-digits-printed n = by (ltb n 10) (ltb n 100)
-  where
-    by : (a b : Bool) → printed_digits n (cond a 2 (cond b 1 0))
-        ≡ cond a (decimal_digit n ∷ []) (cond b (decimal_digit (n / 10) ∷ decimal_digit n ∷ []) (decimal_digit (n / 100) ∷ decimal_digit (n / 10) ∷ decimal_digit n ∷ []))
-    by true b = refl
-    by false true = refl
-    by false false = refl
-
--- a buffer that has as many places as there are digits holds them and nothing else
-pub hex_stored : (s d : List ℕ) {x : List ℕ} {n : ℕ} → length d ≡ 2 * length s → n ≡ min (2 * length s) (length d)
-    → x ≡ written d 0 n (hex_digit_at s) → x ≡ hex_of s
-hex_stored s d {x} {n} e k p =
-    let m : n ≡ 2 * length s = omega (arith, k) in
-    rw m at p ∙ front_hex s d ∙ front_all (hex_of s) d (le_of_eq (e ∙ sym (length_hex s)))
+-- and that of a stamp the most
+pub stamp_fits : (stamp : List ℕ) → length stamp ≡ stamp_size since → length (stamp_opens ++ hex_of stamp ++ closing) ≤ text_size
+unfolding text_size
+stamp_fits stamp e = omega (arith, e, length_hex stamp, length-append stamp_opens (hex_of stamp), length-append (stamp_opens ++ hex_of stamp) closing)

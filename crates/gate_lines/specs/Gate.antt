@@ -1,17 +1,12 @@
 -- What a line does to the gate program's state, what it prints, and what is printed at the end (document 01, "List text and the gate program").
 -- Assumes nothing.
-use Rattle.std.specs.Prelude.{Bool, cond, List, [], ◌∷◌, ◌++◌, ℕ, ◌+◌, ◌*◌, ◌/◌, ◌%◌, eqb, ltb, length, take, replicate}
-use Rattle.common.specs.Lists.{over_front}
+use Rattle.std.specs.Prelude.{Bool, cond, List, [], ◌∷◌, ◌++◌, ℕ, ◌+◌, ◌*◌, ◌/◌, ◌%◌, eqb, ltb, length, replicate}
 use Rattle.card.specs.Command.{command_most}
 use Rattle.text.specs.Hex.{hex_of}
 use Rattle.session.specs.Tables.{since, stamp_size}
 use Rattle.session.specs.Operation.{dead, open_of, command_of, answer_of, answer_buffer, verdict_of, stamp_answer, stamp_buffer}
 use Rattle.session.specs.declared.state.Session.{Session}
 use Rattle.gate_lines.specs.Line.{GateLine}
-use Rattle.gate_lines.specs.declared.state.State.{State}
-use Rattle.gate_lines.specs.declared.state.Text.{Text}
-use Rattle.gate_lines.specs.declared.state.LineReply.{LineReply}
-use Rattle.gate_lines.specs.declared.state.LineReply.TheVariants.{Ok, Refused, Bad}
 
 -- ---- the state between two lines
 
@@ -24,10 +19,6 @@ pub record Gate : Type 0 where
 -- Before the first line: no session is open and no card was read.
 abbrev pub fresh : List ℕ → Gate
 fresh object = record { session = dead; keys = []; object = object }
-
--- The same of the code's state and the buffers that are lent with it.
-abbrev pub gate_of : State → List ℕ → List ℕ → Gate
-gate_of st cards object = record { session = st.session; keys = take st.cards cards; object = object }
 
 -- ---- one line
 
@@ -63,15 +54,20 @@ gate_after g (GateLine.verdict kind yes_no fascn) = with_session g (verdict_of g
 gate_after g GateLine.bad = g
 
 -- "It prints `(ok)`, `(refused N)` or, for other or longer lines and a 1,025th card, `(bad)`"
-abbrev pub reply_by : ℕ → LineReply
-reply_by k = cond (eqb k 0) Ok (Refused k)
+pub data Reply : Type 0 where
+  ok : Reply
+  refused : (number : ℕ) → Reply
+  bad : Reply
 
-unfoldable pub reply_to : Gate → GateLine → LineReply
-reply_to g (GateLine.card key) = cond (has_room g) Ok Bad
+abbrev pub reply_by : ℕ → Reply
+reply_by k = cond (eqb k 0) Reply.ok (Reply.refused k)
+
+unfoldable pub reply_to : Gate → GateLine → Reply
+reply_to g (GateLine.card key) = cond (has_room g) Reply.ok Reply.bad
 reply_to g (GateLine.opening mode date aid) = reply_by (open_of mode date aid).0
 reply_to g (GateLine.answer bytes) = reply_by (answer_of (commanded g) g.object bytes g.keys).0
 reply_to g (GateLine.verdict kind yes_no fascn) = reply_by (verdict_of g.session kind yes_no fascn).0
-reply_to g GateLine.bad = Bad
+reply_to g GateLine.bad = Reply.bad
 
 -- ---- text
 
@@ -95,10 +91,10 @@ unfoldable pub refused_text : ℕ → List ℕ
 refused_text n = refused_head ++ decimal_text n ++ closing
 
 -- `(ok)`, `(bad)` and the text of a refusal
-unfoldable pub reply_text : LineReply → List ℕ
-reply_text Ok = 0x28 ∷ 0x6F ∷ 0x6B ∷ 0x29 ∷ 0x0A ∷ []
-reply_text Bad = 0x28 ∷ 0x62 ∷ 0x61 ∷ 0x64 ∷ 0x29 ∷ 0x0A ∷ []
-reply_text (Refused n) = refused_text n
+unfoldable pub reply_text : Reply → List ℕ
+reply_text Reply.ok = 0x28 ∷ 0x6F ∷ 0x6B ∷ 0x29 ∷ 0x0A ∷ []
+reply_text Reply.bad = 0x28 ∷ 0x62 ∷ 0x61 ∷ 0x64 ∷ 0x29 ∷ 0x0A ∷ []
+reply_text (Reply.refused n) = refused_text n
 
 -- `(stamp `
 abbrev pub stamp_opens : List ℕ
@@ -110,14 +106,6 @@ stamp_text stamp = stamp_opens ++ hex_of stamp ++ closing
 -- The most that is printed at once: the text of a stamp.
 unfoldable pub text_size : ℕ
 text_size = length stamp_opens + 2 * stamp_size since + length closing
-
--- A text as the code gives it: its bytes with zeros after them, and how many count.
-abbrev pub text_of : List ℕ → Text
-text_of s = record { bytes = over_front s (replicate text_size 0); len = length s }
-
--- The bytes that count: those that it was made of (`text_in_lem`, proofs/ReplyTextLaws.antt).
-abbrev pub text_in : Text → List ℕ
-text_in t = take t.len t.bytes
 
 -- "at the end `(stamp HEX)`, or `(refused 4)` if no session is open"
 unfoldable pub end_text : Session → List ℕ

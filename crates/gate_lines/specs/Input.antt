@@ -2,9 +2,8 @@
 -- Assumes nothing.
 use Rattle.std.specs.Prelude.{◌≡◌, cond, List, [], ◌∷◌, ◌++◌, ℕ, ◌+◌, eqb, length, take}
 use Rattle.gate_lines.specs.Line.{longest, line_in}
-use Rattle.gate_lines.specs.Gate.{Gate, gate_of, gate_after, reply_to, reply_text, fresh}
+use Rattle.gate_lines.specs.Gate.{Gate, gate_after, reply_to, reply_text, fresh}
 use Rattle.gate_lines.specs.Run.{SinceOpen, printed_for}
-use Rattle.gate_lines.specs.declared.state.State.{State}
 
 -- ---- the lines of an input
 
@@ -40,10 +39,6 @@ most_held = longest + 1
 pub record InputState : Type 0 where
   pub gate : Gate
   pub held : List ℕ
-
--- The same of the code's state and buffers.
-abbrev pub input_state_of : State → ℕ → List ℕ → List ℕ → List ℕ → InputState
-input_state_of st held cards object line = record { gate = gate_of st cards object; held = take held line }
 
 abbrev pub input_start : Gate → InputState
 input_start g = record { gate = g; held = [] }

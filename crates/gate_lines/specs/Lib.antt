@@ -4,7 +4,8 @@
 -- Gate: what a line does and prints, and what is printed at the end
 -- Run: a list of lines, the calls that they make, and the stamp that is printed at the end
 -- Input: the input cut into lines, in whatever blocks it arrives
--- LineCode, GateCode, InputCode: how the code goes about it; not needed to believe the promises
+-- LineCode, GateCode: how the code's answers are read
+-- InputCode: how far a block is used at once, and the part that is fed
 pub mod Line
 pub mod LineText
 pub mod Gate

@@ -10,9 +10,7 @@ use Rattle.session.specs.Finding.{finding, stamp_of}
 use Rattle.session.specs.Promise.{Call, arguments_of, History, finish}
 use Rattle.session.specs.declared.state.Session.{Session}
 use Rattle.gate_lines.specs.Line.{GateLine, line_in}
-use Rattle.gate_lines.specs.Gate.{Gate, gate_after, has_room, reply_by, reply_to, reply_text, command_room, fresh, refused_text, stamp_text, end_text}
-use Rattle.gate_lines.specs.declared.state.LineReply.{LineReply}
-use Rattle.gate_lines.specs.declared.state.LineReply.TheVariants.{Ok, Bad}
+use Rattle.gate_lines.specs.Gate.{Gate, gate_after, has_room, Reply, reply_by, reply_to, reply_text, command_room, fresh, refused_text, stamp_text, end_text}
 
 -- ---- a list of lines
 
@@ -99,12 +97,12 @@ answer_for (SinceOpen.from o object calls) size n = refusal_of (answer_condition
 
 -- What a line prints: an opening by document 01's conditions on its values, an answer and a verdict by the reading of the calls before. Of the state g this looks at the
 -- count of the cards and at the size of the object buffer.
-abbrev pub reply_for : SinceOpen → Gate → GateLine → LineReply
-reply_for t g (GateLine.card key) = cond (has_room g) Ok Bad
+abbrev pub reply_for : SinceOpen → Gate → GateLine → Reply
+reply_for t g (GateLine.card key) = cond (has_room g) Reply.ok Reply.bad
 reply_for t g (GateLine.opening mode date aid) = reply_by (refusal_of (open_conditions since mode date aid))
 reply_for t g (GateLine.answer bytes) = reply_by (answer_for t (length g.object) (length bytes))
 reply_for t g (GateLine.verdict kind yes_no fascn) = reply_by (number_for t (Call.verdict kind yes_no fascn))
-reply_for t g GateLine.bad = Bad
+reply_for t g GateLine.bad = Reply.bad
 
 -- What is printed for a list of lines.
 unfoldable pub printed_for : Gate → SinceOpen → List (List ℕ) → List ℕ
@@ -117,13 +115,13 @@ end_for SinceOpen.none = refused_text 4
 end_for (SinceOpen.from o object calls) = stamp_text (stamp_of (finding (reading (begins since o) (map arguments_of calls))))
 
 -- What is promised of the reply to a line.
-pub record ReplyPromised (t : SinceOpen) (g : Gate) (line : GateLine) (reply : LineReply) : Type 0 where
+pub record ReplyPromised (t : SinceOpen) (g : Gate) (line : GateLine) (reply : Reply) : Type 0 where
   pub is : reply ≡ reply_for t g line
   -- of an answer line this is the reading's number for the answer call, after the calls before and the command call
   pub answer : (bytes : List ℕ) → line ≡ GateLine.answer bytes → reply ≡ reply_by (number_for (with_calls t (command_call ∷ [])) (Call.answer g.object bytes g.keys))
 
 -- As the contracts of the code carry it: for every object buffer and every list of lines that lead to the session.
-abbrev pub ReplyPromise : Gate → GateLine → LineReply → Type 0
+abbrev pub ReplyPromise : Gate → GateLine → Reply → Type 0
 ReplyPromise g line reply =
     (object : List ℕ) (ls : List (List ℕ)) → g.session ≡ (run_lines (fresh object) ls).session → ReplyPromised (since_open (fresh object) ls) g line reply
 

@@ -1,62 +1,48 @@
 // A line of the input, without its 0A.
-ghost use Rattle.std.specs.Prelude.{◌≡◌, ◌+◌, ◌≤◌, ◌<◌, length, drop};
+ghost use Rattle.std.specs.Prelude.{◌≡◌, true, false, ◌+◌, ◌≤◌, ◌<◌, length, drop, MatchOption};
 ghost use Rattle.common.specs.Decimal.{spelled};
 ghost use Rattle.gate_lines.specs.Line.{longest, open_head, hex_from, headed, call_in, line_in};
 ghost use Rattle.gate_lines.specs.LineCode.{line_by, Fits};
 
 use card::fascn::Key;
 use ccl::line;
-use ccl::line::CardKey;
 use text::{form, hex};
 
 // The most bytes of a line, its 0A not counted; `longest` in the definitions.
 pub(crate) const LONGEST: usize = 1024;
 
-// The bytes before HEX in a line of each kind; `open_head`, `answer_head` and `verdict_head` in the definitions.
-pub(crate) const OPEN_HEAD: usize = 17;
-
-pub(crate) const ANSWER_HEAD: usize = 8;
-
-pub(crate) const VERDICT_HEAD: usize = 13;
-
-// What a line is; the bytes that HEX spells are read from the line when they are needed. `line_by` gives the whole value.
-#[derive(Clone, Copy)]
-pub enum Line {
-    // a card, with its key
+// What a line of one of the forms is. HEX is given as its digits, which spell the bytes of the AID, of the answer and
+// of the FASC-N. `line_by` gives the whole value, and `Fits` where the digits stand in the line. MODE, KIND and YES
+// stay numbers: any digit may come, and the session refuses those that it has no use for.
+#[derive(Clone, Copy, Debug, PartialEq, Eq)]
+pub enum Line<'a> {
+    // a card, by its key
     Card(Key),
-    // `(open MODE DATE AID)`, with mode and date
-    Open(u8, u32),
+    // `(open MODE DATE AID)`
+    Open { mode: u8, date: u32, aid: &'a [u8] },
     // `(answer HEX)`
-    Answer,
-    // `(verdict KIND YES HEX)`, with kind and yes
-    Verdict(u8, u8),
-    // any other
-    Bad,
+    Answer(&'a [u8]),
+    // `(verdict KIND YES HEX)`
+    Verdict { kind: u8, yes: u8, fascn: &'a [u8] },
 }
 
-// What stands from place n on, but for the last byte.
-pub(crate) fn hex_from(s: &[u8], n: usize) -> &[u8]
-    requires { n < length s.now }
-    ensures { result.now ≡ hex_from n s.now }
-{
-    let end = s.len() - 1;
-    &s[n..end]
-}
-
-// Whether the line is a head of the form of the two strings, then HEX, then `)`.
-fn headed(lowest: &[u8], highest: &[u8], s: &[u8]) -> bool
+// The digits of HEX where the line is a head of the form of the two strings, then HEX, then `)`.
+#[tactic(auto, unfolding(crate::specs::Line::headed, crate::specs::Line::hex_from))]
+fn headed<'a>(lowest: &[u8], highest: &[u8], s: &'a [u8]) -> Option<&'a [u8]>
     requires { length lowest.now ≤ open_head }
-    ensures { result ≡ headed lowest.now highest.now s.now }
+    ensures { MatchOption result (headed lowest.now highest.now s.now ≡ false) (λ hex. (headed lowest.now highest.now s.now ≡ true) × (hex.now ≡ hex_from (length lowest.now) s.now) × (length lowest.now + 3 ≤ length s.now) × (length hex.now ≤ length s.now)) }
 {
     let n = lowest.len();
-    if s.len() < n + 3 {
-        return false;
+    if s.len() < n + 3 || !form::between(lowest, highest, &s[..n]) {
+        return None;
     }
-    if !form::between(lowest, highest, &s[..n]) {
-        return false;
+    let end = s.len() - 1;
+    let digits = &s[n..end];
+    if hex::is_hex(digits) && s[end] == b')' {
+        Some(digits)
+    } else {
+        None
     }
-    let last = s[s.len() - 1];
-    hex::is_hex(hex_from(s, n)) & (last == b')')
 }
 
 // The number that the eight digits from place 8 on spell.
@@ -64,9 +50,10 @@ fn date_in(s: &[u8]) -> u32
     requires { 16 ≤ length s.now }
     ensures { result ≡ spelled 8 (drop 8 s.now) }
 {
+    // a loop and not `fold`: that the product fits rests on a bound that lasts from one digit to the next
     let mut n: u32 = 0;
-    for j in 0..8 {
-        n = n * 10 + (s[8 + j] % 16) as u32;
+    for x in &s[8..16] {
+        n = n * 10 + (*x % 16) as u32;
     }
     n
 }
@@ -79,35 +66,44 @@ fn digit_in(s: &[u8], i: usize) -> u8
     s[i] % 16
 }
 
-// What a line is that is not too long and no card.
-fn call_line(s: &[u8]) -> Line
+// What a line is that is no card.
+#[tactic(auto, unfolding(crate::specs::Line::call_in))]
+fn call_line(s: &[u8]) -> Option<Line>
     requires { length s.now ≤ longest }
-    ensures is { line_by result s.now ≡ call_in s.now }
+    ensures is { line_by result ≡ call_in s.now }
     ensures fits { Fits result s.now }
 {
-    if headed(b"(open 0 00000000 ", b"(open 9 99999999 ", s) {
-        return Line::Open(digit_in(s, 6), date_in(s));
+    if let Some(aid) = headed(b"(open 0 00000000 ", b"(open 9 99999999 ", s) {
+        return Some(Line::Open {
+            mode: digit_in(s, 6),
+            date: date_in(s),
+            aid,
+        });
     }
-    if headed(b"(answer ", b"(answer ", s) {
-        return Line::Answer;
+    if let Some(answer) = headed(b"(answer ", b"(answer ", s) {
+        return Some(Line::Answer(answer));
     }
-    if headed(b"(verdict 0 0 ", b"(verdict 9 9 ", s) {
-        return Line::Verdict(digit_in(s, 9), digit_in(s, 11));
+    if let Some(fascn) = headed(b"(verdict 0 0 ", b"(verdict 9 9 ", s) {
+        return Some(Line::Verdict {
+            kind: digit_in(s, 9),
+            yes: digit_in(s, 11),
+            fascn,
+        });
     }
-    Line::Bad
+    None
 }
 
-// What a line is.
-pub fn read(s: &[u8]) -> Line
-    ensures is { line_by result s.now ≡ line_in s.now }
+// What a line is; a longer line is of no form.
+#[tactic(auto, unfolding(crate::specs::Line::line_in, ccl::specs::Line::card_of))]
+pub fn read(s: &[u8]) -> Option<Line>
+    ensures is { line_by result ≡ line_in s.now }
     ensures fits { Fits result s.now }
 {
     if LONGEST < s.len() {
-        return Line::Bad;
+        return None;
     }
-    let card = line::card_key(s);
-    match card {
-        CardKey::Card(key) => Line::Card(key),
-        CardKey::Malformed => call_line(s),
+    match line::card_key(s) {
+        Some(key) => Some(Line::Card(key)),
+        None => call_line(s),
     }
 }

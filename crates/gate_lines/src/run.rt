@@ -1,154 +1,157 @@
-// One line of the program: the calls that it makes, the new state and what it prints.
-ghost use Rattle.std.specs.Prelude.{◌≡◌, cond, [], ◌≤◌, eqb, length};
+// One line of the program: the calls that it makes, the new state, and whether it is declined.
+ghost use Rattle.std.specs.Prelude.{◌≡◌, ◌≤◌, length, replicate, take};
 ghost use Rattle.text.specs.Hex.{bytes_in};
-ghost use Rattle.session.specs.Operation.{dead, given, open_of, verdict_of};
+ghost use Rattle.session.specs.Tables.{object_size};
+ghost use Rattle.session.specs.Operation.{given};
 ghost use Rattle.gate_lines.specs.Line.{GateLine, longest, line_in};
-ghost use Rattle.gate_lines.specs.Gate.{gate_of, gate_after, most_cards, reply_by, reply_to};
-ghost use Rattle.gate_lines.specs.GateCode.{cards_after};
+ghost use Rattle.gate_lines.specs.Gate.{fresh, most_cards, Reply, gate_after, reply_by, reply_to, with_session};
+ghost use Rattle.gate_lines.specs.GateCode.{reply_of};
 ghost use Rattle.gate_lines.specs.Run.{ReplyPromise};
-ghost use Rattle.gate_lines.specs.declared.state.LineReply.TheVariants.{Refused};
 
 use crate::line;
-use crate::line::{ANSWER_HEAD, LONGEST, Line, OPEN_HEAD, VERDICT_HEAD};
-use crate::state::{CARDS, LineReply, LineRun, State};
+use crate::line::{LONGEST, Line};
+use crate::state::{CARDS, Gate, LineError};
 use card::command::COMMAND_MOST;
 use card::fascn::Key;
-use common::number;
 use session::figures::OBJECT;
 use session::open;
-use session::state::Answered;
+use session::state::{Answered, Session};
 use text::hex;
 
 // The most bytes that HEX of a line spells.
 const BYTES: usize = LONGEST / 2;
 
-// The program's state before the first line.
-pub fn start() -> State
-    ensures { (result.session ≡ dead) × (result.cards ≡ 0) }
+// The bytes that HEX spells, read to the front of a buffer that has room for those of the longest line.
+fn bytes_of<'a>(spelled: &[u8], buffer: &'a mut [u8; BYTES]) -> &'a [u8]
+    requires { length spelled.now ≤ longest }
+    ensures { result.now ≡ bytes_in spelled.now }
 {
-    let session = open::dead_session();
-    State { session, cards: 0 }
+    let n = hex::read(spelled, buffer);
+    &buffer[..n]
 }
 
-// `(ok)`, or `(refused N)` where the number is not 0.
-fn reply_by(number: u8) -> LineReply
-    ensures { result ≡ reply_by number }
-{
-    if number == 0 {
-        LineReply::Ok
-    } else {
-        LineReply::Refused(number)
-    }
-}
-
-// The state with the session that a call hands back, and what the call's answer prints.
-fn answered_by(answered: Answered, cards: usize) -> LineRun
-    ensures { (result.reply ≡ reply_by (given answered).0) × (result.state.session ≡ (given answered).1) × (result.state.cards ≡ cards) }
-{
-    let session = answered.session;
-    let reply = answered.reply;
-    let number = reply.number();
-    let reply = reply_by(number);
-    let state = State { session, cards };
-    LineRun { state, reply }
-}
-
-impl State {
-    // A card line: the key is kept after those before it, where there is room.
-    fn card_line(self, cards: &mut [u64], key: Key) -> LineRun
-        requires { length cards.old ≡ most_cards }
-        ensures cards_after { gate_of result.state cards.new [] ≡ gate_after (gate_of self cards.old []) (GateLine.card key.0) }
-        ensures reply_value { result.reply ≡ reply_to (gate_of self cards.old []) (GateLine.card key.0) }
-        ensures cards_after_2 { (result.state.cards, cards.new) ≡ cards_after self cards.old (GateLine.card key.0) }
+impl Gate {
+    // The program before the first line.
+    pub fn new() -> Gate
+        ensures { result ≡ fresh (replicate object_size 0) }
     {
-        let n = self.cards;
-        if n < CARDS {
-            cards[n] = key.0;
-            let session = self.session;
-            let state = State {
-                session,
-                cards: n + 1,
-            };
-            return LineRun {
-                state,
-                reply: LineReply::Ok,
-            };
+        Gate {
+            session: open::dead_session(),
+            keys: [0; CARDS],
+            cards: 0,
+            object: [0; OBJECT],
         }
-        LineRun {
-            state: self,
-            reply: LineReply::Bad,
+    }
+
+    // The program at any state: this session, these keys of cards, as far as there is room, and this object buffer.
+    pub fn at(session: Session, keys: &[u64], object: &[u8; OBJECT]) -> Gate
+        ensures { result ≡ record { session = session; keys = take most_cards keys.now; object = object.now } }
+    {
+        let cards = keys.len().min(CARDS);
+        let mut kept = [0u64; CARDS];
+        kept[..cards].copy_from_slice(&keys[..cards]);
+        Gate {
+            session,
+            keys: kept,
+            cards,
+            object: *object,
         }
+    }
+
+    // The session, the keys of the cards read so far, and the object buffer.
+    pub fn session(&self) -> Session
+        ensures { result ≡ self.now.session }
+    {
+        self.session
+    }
+
+    pub fn keys(&self) -> &[u64]
+        ensures { result.now ≡ self.now.keys }
+    {
+        &self.keys[..self.cards]
+    }
+
+    pub fn object(&self) -> &[u8; OBJECT]
+        ensures { result.now ≡ self.now.object }
+    {
+        &self.object
+    }
+
+    // The session that a call hands back is taken; its reply is the line's.
+    fn take(&mut self, answered: Answered) -> Result<(), LineError>
+        ensures state { self.new ≡ with_session self.old (given answered).1 }
+        ensures reply { reply_of result ≡ reply_by (given answered).0 }
+    {
+        self.session = answered.session;
+        answered.reply?;
+        Ok(())
+    }
+
+    // A card line: the key is kept after those before it, where there is room.
+    fn card_line(&mut self, key: Key) -> Result<(), LineError>
+        ensures state { self.new ≡ gate_after self.old (GateLine.card key.0) }
+        ensures reply { reply_of result ≡ reply_to self.old (GateLine.card key.0) }
+    {
+        if self.cards == CARDS {
+            return Err(LineError::Bad);
+        }
+        self.keys[self.cards] = key.0;
+        self.cards += 1;
+        Ok(())
     }
 
     // An opening: an accepted one replaces the session.
-    fn open_line(self, mode: u8, date: u32, spelled: &[u8]) -> LineRun
-        requires { length spelled.now ≤ longest }
-        ensures reply_value { result.reply ≡ reply_by (open_of mode date (bytes_in spelled.now)).0 }
-        ensures state_value { result.state ≡ cond (eqb (open_of mode date (bytes_in spelled.now)).0 0) (record { session = (open_of mode date (bytes_in spelled.now)).1; cards = self.cards }) self }
+    fn open_line(&mut self, mode: u8, date: u32, aid: &[u8]) -> Result<(), LineError>
+        ensures state { self.new ≡ gate_after self.old (GateLine.opening mode date aid.now) }
+        ensures reply { reply_of result ≡ reply_to self.old (GateLine.opening mode date aid.now) }
     {
-        let mut bytes = [0u8; BYTES];
-        let n = hex::read(spelled, &mut bytes);
-        let opened = open::open(mode, date, &bytes[..n]);
-        let reply = opened.reply;
-        let number = reply.number();
-        if number == 0 {
-            return answered_by(opened, self.cards);
-        }
-        LineRun {
-            state: self,
-            reply: LineReply::Refused(number),
-        }
+        let opened = open::open(mode, date, aid);
+        opened.reply?;
+        self.session = opened.session;
+        Ok(())
     }
 
     // An answer: the command call is made first, and the cards so far are lent with the answer.
-    fn answer_line(self, cards: &[u64], object: &mut [u8], spelled: &[u8]) -> LineRun
-        requires { length spelled.now ≤ longest }
-        ensures object_after { gate_of result.state cards.now object.new ≡ gate_after (gate_of self cards.now object.old) (GateLine.answer (bytes_in spelled.now)) }
-        ensures reply_value { result.reply ≡ reply_to (gate_of self cards.now object.old) (GateLine.answer (bytes_in spelled.now)) }
-        ensures cards_value { result.state.cards ≡ self.cards }
+    fn answer_line(&mut self, bytes: &[u8]) -> Result<(), LineError>
+        ensures state { self.new ≡ gate_after self.old (GateLine.answer bytes.now) }
+        ensures reply { reply_of result ≡ reply_to self.old (GateLine.answer bytes.now) }
+        ensures never_seven { reply_of result ≡ Reply.refused 7 → ⊥ }
     {
-        let mut bytes = [0u8; BYTES];
-        let n = hex::read(spelled, &mut bytes);
         let mut out = [0u8; COMMAND_MOST];
-        let session = self.session;
-        let sent = session.command(&mut out);
-        let ready = sent.session;
-        let count = number::least(self.cards, cards.len());
-        let answered = ready.answer(object, &bytes[..n], &cards[..count]);
-        answered_by(answered, self.cards)
+        let ready = self.session.command(&mut out).session;
+        let cards = &self.keys[..self.cards];
+        let answered = ready.answer(&mut self.object, bytes, cards);
+        self.take(answered)
     }
 
     // A verdict.
-    fn verdict_line(self, kind: u8, yes: u8, spelled: &[u8]) -> LineRun
-        requires { length spelled.now ≤ longest }
-        ensures reply_value { result.reply ≡ reply_by (verdict_of self.session kind yes (bytes_in spelled.now)).0 }
-        ensures state_value { result.state ≡ record { session = (verdict_of self.session kind yes (bytes_in spelled.now)).1; cards = self.cards } }
+    fn verdict_line(&mut self, kind: u8, yes: u8, fascn: &[u8]) -> Result<(), LineError>
+        ensures state { self.new ≡ gate_after self.old (GateLine.verdict kind yes fascn.now) }
+        ensures reply { reply_of result ≡ reply_to self.old (GateLine.verdict kind yes fascn.now) }
     {
-        let mut bytes = [0u8; BYTES];
-        let n = hex::read(spelled, &mut bytes);
-        let session = self.session;
-        let answered = session.verdict(kind, yes, &bytes[..n]);
-        answered_by(answered, self.cards)
+        let answered = self.session.verdict(kind, yes, fascn);
+        self.take(answered)
     }
 
-    // One line: the state after it, and what it prints.
-    pub fn run_line(self, cards: &mut [u64; CARDS], object: &mut [u8; OBJECT], s: &[u8]) -> LineRun
-        ensures state { gate_of result.state cards.new object.new ≡ gate_after (gate_of self cards.old object.old) (line_in s.now) }
-        ensures reply { result.reply ≡ reply_to (gate_of self cards.old object.old) (line_in s.now) }
-        ensures places { (result.state.cards, cards.new) ≡ cards_after self cards.old (line_in s.now) }
-        ensures for_every_list { ReplyPromise (gate_of self cards.old object.old) (line_in s.now) result.reply }
-        ensures never_seven { result.reply ≡ Refused 7 → ⊥ }
+    // One line. What it prints is its reply's text.
+    #[tactic(auto, using(crate::proofs::PrintedLaws::reply_promise, crate::proofs::AnswerLineLaws::line_not_seven), unfolding(crate::specs::Gate::gate_after, crate::specs::Gate::reply_to))]
+    pub fn run_line(&mut self, s: &[u8]) -> Result<(), LineError>
+        ensures state { self.new ≡ gate_after self.old (line_in s.now) }
+        ensures reply { reply_of result ≡ reply_to self.old (line_in s.now) }
+        ensures for_every_list { ReplyPromise self.old (line_in s.now) (reply_of result) }
+        ensures never_seven { reply_of result ≡ Reply.refused 7 → ⊥ }
     {
-        let kind = line::read(s);
-        match kind {
-            Line::Card(key) => self.card_line(cards, key),
-            Line::Open(mode, date) => self.open_line(mode, date, line::hex_from(s, OPEN_HEAD)),
-            Line::Answer => self.answer_line(cards, object, line::hex_from(s, ANSWER_HEAD)),
-            Line::Verdict(of, yes) => self.verdict_line(of, yes, line::hex_from(s, VERDICT_HEAD)),
-            Line::Bad => LineRun {
-                state: self,
-                reply: LineReply::Bad,
-            },
+        let mut buffer = [0u8; BYTES];
+        match line::read(s) {
+            Some(Line::Card(key)) => self.card_line(key),
+            Some(Line::Open { mode, date, aid }) => {
+                self.open_line(mode, date, bytes_of(aid, &mut buffer))
+            }
+            Some(Line::Answer(answer)) => self.answer_line(bytes_of(answer, &mut buffer)),
+            Some(Line::Verdict { kind, yes, fascn }) => {
+                self.verdict_line(kind, yes, bytes_of(fascn, &mut buffer))
+            }
+            None => Err(LineError::Bad),
         }
     }
 }

@@ -1,40 +1,53 @@
-// The program's state between two lines, and what a line prints.
-use session::figures::STAMP;
-use session::state::Session;
+// The program's state between two lines, and why a line is declined.
+use session::figures::{OBJECT, STAMP};
+use session::state::{Refusal, Session};
+use std::marker::Model;
 
 // How many cards are kept; `most_cards` in the definitions.
 pub const CARDS: usize = 1024;
 
-// The digits of a stamp, and the most bytes that are printed at once: `(stamp `, these digits, `)` and 0A; `text_size` in the definitions.
-pub(crate) const STAMP_DIGITS: usize = 2 * STAMP;
+// The most bytes that are printed at once: `(stamp `, two digits for each byte of a stamp, `)` and 0A; `text_size` in
+// the definitions.
+pub const TEXT: usize = 7 + 2 * STAMP + 2;
 
-pub const TEXT: usize = 7 + STAMP_DIGITS + 2;
-
-// The session, dead where none is open, and how many cards were read. The cards' keys stand at the front of a buffer that is lent to each call.
-#[derive(Clone, Copy)]
-pub struct State {
-    pub session: Session,
-    pub cards: usize,
+// The program: the session, dead where none is open, the keys of the cards read so far, which are the first `cards` of
+// `keys`, and the object buffer that is lent to each answer. There is no heap for a list of keys; clauses see one
+// (`Gate` in the definitions), and no contract names the count.
+#[derive(Drop)]
+pub struct Gate {
+    pub(crate) session: Session,
+    pub(crate) keys: [u64; CARDS],
+    pub(crate) cards: usize,
+    pub(crate) object: [u8; OBJECT],
 }
 
-// What a line prints: `(ok)`, `(refused N)` or `(bad)`.
-#[derive(Clone, Copy)]
-pub enum LineReply {
-    Ok,
-    Refused(u8),
+impl Model for Gate {
+    ghost use Rattle.std.specs.Prelude.{◌≤◌, take};
+    ghost use Rattle.gate_lines.specs.Gate.{Gate, most_cards};
+
+    ghost Value = { Gate };
+
+    ghost view = { λ g. record { session = g.session; keys = take g.cards g.keys; object = g.object } };
+
+    ghost invariant = { λ g. g.cards ≤ most_cards };
+}
+
+// Why a line is declined.
+#[derive(Clone, Copy, Debug, PartialEq, Eq)]
+pub enum LineError {
+    // the call that the line makes is refused
+    Refused(Refusal),
+    // no line of the forms, or a card for which there is no room
     Bad,
 }
 
-// The state after a line, and what the line prints.
-#[derive(Clone, Copy)]
-pub struct LineRun {
-    pub state: State,
-    pub reply: LineReply,
-}
+impl From<Refusal> for LineError {
+    ghost use Rattle.std.specs.Prelude.{◌≡◌};
+    ghost use Rattle.gate_lines.specs.declared.state.LineError.TheVariants.{Refused};
 
-// Text to print: the first `len` bytes.
-#[derive(Clone, Copy)]
-pub struct Text {
-    pub bytes: [u8; TEXT],
-    pub len: usize,
+    ghost from_gives = { λ refusal e. e ≡ Refused refusal };
+
+    fn from(refusal: Refusal) -> LineError {
+        LineError::Refused(refusal)
+    }
 }

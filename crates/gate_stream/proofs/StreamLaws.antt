@@ -1,47 +1,29 @@
 -- What was fed to the program, part by part, and what that prints. Assumes nothing.
-use mathlib.Core.Path.{◌≡◌, refl, sym, ap, ap₂, ◌∙◌}
-use mathlib.Core.Bool.{Bool, true, false, ◌&&◌}
-use mathlib.Core.List.{List, [], ◌∷◌, ◌++◌, append_assoc}
+use mathlib.Core.Path.{◌≡◌, refl, sym, ap, subst, ◌∙◌}
+use mathlib.Core.List.{List, [], ◌∷◌, ◌++◌, append_assoc, append-nil}
 use Prim.Native.Nat.{ℕ, ◌+◌, ◌-◌, ◌*◌, ◌^◌, ◌≤◌, ◌<◌}
 use native.Mathlib.Omega.{arith}
-use Prim.Native.Nat.{zero-le, min}
-use borrow.Author.Tests.{ltb-true, ltb-false}
+use Prim.Native.Nat.{zero-le}
 use lib.Dec.{eqb, ltb}
-use lib.IntN.{ℤ, pos, negsuc}
-use lib.ListN.{length, take, drop, length-append, length-take, length-drop}
-use lib.Seq.{take-add, take-append_seam, length-take-le}
-use Rattle.common.proofs.TestLaws.{clash, and_left, either}
-use Rattle.common.specs.Lists.{over_front}
-use Rattle.session.specs.Operation.{dead}
-use Rattle.session.specs.declared.state.Session.{Session}
+use lib.ListN.{length, take, drop, length-append, length-take}
+use lib.Seq.{take-add}
+use Rattle.std.proofs.Common.{inl, inr, Option, None, Some, IfSome, Result, Ok, Err, OnOk, IfErr}
+use Rattle.std.specs.Io.KnownBytes.{Consumes, IsAtEnd, Appends, Keeps}
+use Rattle.std.proofs.KnownBytes.{Consumes-nil, Consumes-trans, Consumes-kept, Appends-nil, Appends-trans}
+use Rattle.common.proofs.TestLaws.{either}
+use Rattle.append.specs.Append.{added}
+use Rattle.append.proofs.AppendLaws.{added_all}
 use Rattle.gate_lines.specs.Line.{line_in}
-use Rattle.gate_lines.specs.Gate.{Gate, fresh, end_text, reply_to, reply_text, refused_head, closing, refused_text, decimal_text, text_in}
-use Rattle.gate_lines.specs.GateCode.{TextFits}
-use Rattle.gate_lines.specs.Input.{InputState, input_state_of, input_after_byte, input_after, text_of_byte, text_of_input, lines_in, input_start, last_gate, last_text, printed_of}
+use Rattle.gate_lines.specs.Gate.{Reply, fresh, end_text, reply_to, reply_text, refused_head, closing, refused_text, decimal_text}
+use Rattle.gate_lines.specs.Input.{InputState, input_after_byte, input_after, text_of_byte, text_of_input, cut, input_start, last_gate, last_text, printed_of}
 use Rattle.gate_lines.specs.InputCode.{part_from}
-use Rattle.gate_lines.specs.declared.state.Text.{Text}
-use Rattle.gate_lines.specs.declared.state.LineReply.{LineReply}
-use Rattle.gate_lines.specs.declared.state.LineReply.TheVariants.{Ok, Refused, Bad}
-use Rattle.gate_lines.specs.declared.state.State.{State}
-use Rattle.gate_lines.specs.Run.{SinceOpen, since_open, printed_for, end_for}
-use Rattle.gate_lines.proofs.RunLaws.{run_end}
-use Rattle.gate_lines.proofs.InputLaws.{feed_append, text_append, whole_gate, last_promise}
-use Rattle.gate_stream.specs.Stream.{clamp_len, reply_most, goes_on, Fed, ending_text, EndsWith, EndsBy}
+use Rattle.gate_lines.specs.Run.{printed_for}
+use Rattle.gate_lines.proofs.InputLaws.{feed_append, text_append, feed_promise, whole_reading}
+use Rattle.gate_stream.specs.Stream.{read_size, reply_most, out_size, ReadWhole, Fed, ending_text, output_for, EndsFor}
+use Rattle.gate_stream.specs.declared.GateError.{GateError}
+use Rattle.gate_stream.specs.declared.GateError.TheVariants.{NoInput, NoOutput, NoEnd}
 
 -- ---- a block, part by part
-
--- nothing of it
-pub fed_none : (m : InputState) (block : List ℕ) (used : ℕ) → used ≡ 0 → m ≡ input_after m (take used block)
-unfolding input_after
-fed_none m block used e = rw e
-
-pub text_none : (m : InputState) (block : List ℕ) (used : ℕ) → used ≡ 0 → text_of_input m (take used block) ≡ []
-unfolding text_of_input
-text_none m block used e = rw e
-
-pub front_none : (s l : List ℕ) → s ≡ [] → l ≡ over_front s l
-unfolding over_front
-front_none s l e = rw e
 
 -- a part after the first
 take_on : (u v : ℕ) (l : List ℕ) → u ≤ v → take v l ≡ take u l ++ take (v - u) (drop u l)
@@ -59,17 +41,13 @@ text_part m n block u v h p =
     ap (λ (x : InputState). text_of_input m (take u block) ++ text_of_input x (take (v - u) (drop u block))) p
     ∙ sym (text_append (take u block) (take (v - u) (drop u block)) m) ∙ ap (text_of_input m) (sym (take_on u v block h))
 
--- a text after another, as long as both
-pub long_part : (s t : List ℕ) {u : List ℕ} {g n : ℕ} → g ≡ length s → n ≡ g + length t → s ++ t ≡ u → n ≡ length u
-long_part s t p q e = rw (q, p, ← e, length-append)
-
 -- ---- how long a text is
 
-pub reply_small : (r : LineReply) → length (reply_text r) ≤ reply_most
+pub reply_small : (r : Reply) → length (reply_text r) ≤ reply_most
 unfolding reply_text refused_text decimal_text
-reply_small Ok = omega arith
-reply_small Bad = omega arith
-reply_small (Refused n) =
+reply_small Reply.ok = omega arith
+reply_small Reply.bad = omega arith
+reply_small (Reply.refused n) =
     either (λ (d : List ℕ). length (refused_head ++ d ++ closing) ≤ reply_most) (ltb n 10) (omega arith)
     (either (λ (d : List ℕ). length (refused_head ++ d ++ closing) ≤ reply_most) (ltb n 100) (omega arith) (omega arith))
 
@@ -81,82 +59,144 @@ text_small (b ∷ s) m =
     let one : length (text_of_byte m b) ≤ reply_most = either (λ (t : List ℕ). length t ≤ reply_most) (eqb b 0x0A) (reply_small (reply_to m.gate (line_in m.held))) zero-le in
     rw length-append (omega (arith, rest, one))
 
-pub part_small : (m : InputState) (block : List ℕ) (u v : ℕ) → length (text_of_input m (part_from block u v)) ≤ reply_most * (length block - u)
-unfolding part_from
-part_small m block u v =
-    omega (arith, text_small (take (v - u) (drop u block)) m, length-take (v - u) (drop u block), length-drop u block)
-
--- ---- bytes stored
-
--- the length of a text that fits
-pub text_long : (t : Text) → TextFits t 0 → length (text_in t) ≡ t.len
-text_long t f = length-take-le t.len t.bytes (omega (arith, f))
+-- the buffer has room for the text of a block, so that the text of a part is added whole
+pub part_added : (m n : InputState) (block : List ℕ) (u v : ℕ) → u ≤ v → length block ≤ read_size → n ≡ input_after m (take u block)
+    → added out_size (text_of_input m (take u block)) (text_of_input n (part_from block u v)) ≡ text_of_input m (take v block)
+part_added m n block u v h l p =
+    let both = text_part m n block u v h p in
+    let room : length (text_of_input m (take u block)) + length (text_of_input n (part_from block u v)) ≤ out_size =
+    omega (arith, length-append (text_of_input m (take u block)) (text_of_input n (part_from block u v)), ap length both, text_small (take v block) m, length-take v block, l) in
+    added_all out_size _ _ room ∙ both
 
 -- ---- block after block
 
--- with so many turns left: as long as the program goes on, each turn that was used fed a byte or more
-pub record FedBy (turns : ℕ) (m n : InputState) (more : Bool) : Type 0 where
+-- as many turns were made as is said, each of which fed a byte or more, and every write was taken
+pub record FedBy (turns : ℕ) (m n : InputState) (left left' held held' : Option (List ℕ)) : Type 0 where
   pub bytes : List ℕ
   pub is : n ≡ input_after m bytes
-  pub each : more ≡ true → 2 ^ 64 - 1 ≤ turns + length bytes
+  pub read : Consumes left left' bytes
+  pub wrote : Appends held held' (text_of_input m bytes)
+  pub each : turns ≤ length bytes
 
-pub fed_start : (m : InputState) (more : Bool) → FedBy (2 ^ 64 - 1) m m more
-unfolding input_after
-fed_start m more = record { bytes = []; is = refl; each = λ e. omega arith }
-
--- a read that gives bytes gives one or more
-pub some_read : (got : ℤ) (taken : Bool) (most : ℕ) (s : List ℕ) → goes_on got taken ≡ true → 0 < most → length s ≡ most → 0 < length (take (clamp_len got most) s)
-unfolding goes_on
-some_read (pos k) taken most s e h l =
-    let p : 0 < k = ltb-true 0 k (and_left (ltb 0 k) taken e) in
-    omega (arith, length-take (min k most) s, p, h, l)
-some_read (negsuc k) taken most s e h l = clash (and_left false taken e)
+pub fed_start : (m : InputState) (left held : Option (List ℕ)) → FedBy 0 m m left left held held
+unfolding input_after text_of_input
+fed_start m left held = record { bytes = []; is = refl; read = Consumes-nil left; wrote = Appends-nil held; each = zero-le }
 
 -- one block more
-pub fed_block : (turns : ℕ) (m n o : InputState) (more : Bool) (got : ℤ) (taken : Bool) (most : ℕ) (s : List ℕ) → FedBy turns m n more → more ≡ true → 0 < most → length s ≡ most
-    → 0 < turns → o ≡ input_after n (take (clamp_len got most) s) → FedBy (turns - 1) m o (goes_on got taken)
-fed_block turns m n o more got taken most s f go h l t e =
-    let block = take (clamp_len got most) s in
+pub fed_block : (turns next : ℕ) (m n o : InputState) (left mid left' held was held' : Option (List ℕ)) (text block : List ℕ) → FedBy turns m n left mid held was → o ≡ input_after n block
+    → Consumes mid left' block → text ≡ text_of_input n block → Appends was held' text → next ≤ turns + length block → FedBy next m o left left' held held'
+fed_block turns next m n o left mid left' held was held' text block f e r t w h =
     record {
       bytes = f.bytes ++ block;
       is = e ∙ ap (λ (x : InputState). input_after x block) f.is ∙ sym (feed_append f.bytes block m);
-      each = λ g. omega (arith, f.each go, some_read got taken most s g h l, length-append f.bytes block, t);
+      read = Consumes-trans left mid left' f.bytes block f.read r;
+      wrote = rw (text_append f.bytes block m, ← f.is, ← t) (Appends-trans held was held' (text_of_input m f.bytes) text f.wrote w);
+      each = omega (arith, f.each, length-append f.bytes block, h);
     }
 
--- the loop's end: it goes on no longer, or its turns are used up
-pub fed_end : (turns : ℕ) (m n : InputState) (more : Bool) → FedBy turns m n more → ltb 0 turns && more ≡ false → Fed m n more
-fed_end turns m n true f e = record { bytes = f.bytes; is = f.is; all = λ g. omega (arith, f.each refl, ltb-false 0 turns (by (ltb 0 turns) e)) }
-  where
-    by : (b : Bool) → b && true ≡ false → b ≡ false
-    by true p = p
-    by false p = refl
-fed_end turns m n false f e = record { bytes = f.bytes; is = f.is; all = λ g. clash g }
+-- the input was read whole
+pub fed_whole : (turns : ℕ) (m n : InputState) (left left' held held' : Option (List ℕ)) → FedBy turns m n left left' held held' → IsAtEnd left' → Fed m n left left' held held' (Ok tt)
+fed_whole turns m n left left' held held' f h = record { bytes = f.bytes; is = f.is; read = f.read; whole = inl h; wrote = f.wrote }
+
+-- a read failed, which leaves what the reader has
+pub fed_unread : (turns : ℕ) (m n : InputState) (left mid left' held held' : Option (List ℕ)) → FedBy turns m n left mid held held' → Keeps mid left' → Fed m n left left' held held' (Err NoInput)
+fed_unread turns m n left mid left' held held' f k = record { bytes = f.bytes; is = f.is; read = Consumes-kept left mid left' f.bytes f.read k; whole = tt; wrote = f.wrote }
+
+-- the text of a block was not taken
+pub fed_untaken : (turns : ℕ) (m n o : InputState) (left mid left' held was held' : Option (List ℕ)) (block : List ℕ) → FedBy turns m n left mid held was → o ≡ input_after n block
+    → Consumes mid left' block → Fed m o left left' held held' (Err NoOutput)
+fed_untaken turns m n o left mid left' held was held' block f e r =
+    record {
+      bytes = f.bytes ++ block;
+      is = e ∙ ap (λ (x : InputState). input_after x block) f.is ∙ sym (feed_append f.bytes block m);
+      read = Consumes-trans left mid left' f.bytes block f.read r;
+      whole = tt;
+      wrote = tt;
+    }
 
 -- ---- the end
 
--- the program starts with no session and no card
-pub start_fresh : (s : State) (cards object line : List ℕ) → (s.session ≡ dead) × (s.cards ≡ 0) → input_state_of s 0 cards object line ≡ input_start (fresh object)
-start_fresh s cards object line e =
-    ap₂ (λ (x : Session) (n : ℕ). record { gate = record { session = x; keys = take n cards; object = object }; held = [] }) e.0 e.1
+last_small : (m : InputState) → length (last_text m) ≤ reply_most
+unfolding last_text
+last_small m = either (λ (t : List ℕ). length t ≤ reply_most) (eqb (length m.held) 0) zero-le (reply_small (reply_to m.gate (line_in m.held)))
 
--- from the start of the program, fed with some bytes, to the text of its end
-pub ends_with : (object out left : List ℕ) (m e : InputState) (more : Bool) (n : ℕ) → m ≡ input_start (fresh object) → Fed m e more → n ≡ length (ending_text e)
-    → left ≡ over_front (ending_text e) out → EndsWith object (take n left)
-unfolding ending_text over_front
-ends_with object out left m e more n p f k o =
-    let at : e ≡ input_after (input_start (fresh object)) f.bytes = f.is ∙ ap (λ (x : InputState). input_after x f.bytes) p in
-    let ends : end_text (last_gate e).session ≡ end_for (since_open (fresh object) (lines_in f.bytes)) =
-    ap (λ (x : InputState). end_text (last_gate x).session) at ∙ ap (λ (x : Gate). end_text x.session) (whole_gate (fresh object) f.bytes) ∙ run_end object (lines_in f.bytes) in
-    let before = printed_of object f.bytes in
-    let both : before ++ (last_text e ++ end_text (last_gate e).session) ≡ printed_for (fresh object) SinceOpen.none (lines_in f.bytes) ++ end_for (since_open (fresh object) (lines_in f.bytes)) =
-    sym (append_assoc before (last_text e) (end_text (last_gate e).session)) ∙ ap₂ (λ (x y : List ℕ). x ++ y) (last_promise e (last_text e) refl object f.bytes at) ends in
-    record { bytes = f.bytes; is = rw (k, o, take-append_seam) both }
+-- the buffer has room for the texts of the end
+pub ending_added : (m : InputState) (none one end all : List ℕ) → none ≡ [] → one ≡ added out_size none (last_text m) → end ≡ end_text (last_gate m).session → length end ≤ 101
+    → all ≡ added out_size one end → all ≡ ending_text m
+unfolding ending_text
+ending_added m none one end all e f g h k =
+    let first : one ≡ last_text m = f ∙ ap (λ (x : List ℕ). added out_size x (last_text m)) e ∙ added_all out_size [] (last_text m) (omega (arith, last_small m)) in
+    k ∙ ap (λ (x : List ℕ). added out_size x end) first ∙ added_all out_size (last_text m) end (omega (arith, last_small m, h)) ∙ ap (λ (x : List ℕ). last_text m ++ x) g
 
--- by the test whether a read or a write failed
-pub ends_none : (b : Bool) (object out : List ℕ) → b ≡ true → EndsBy b object out 0
-ends_none true object out e = refl
-ends_none false object out e = clash e
+-- all that is printed for the bytes of whole lines is what the reading gives them
+pub printed_is : (object bytes : List ℕ) → text_of_input (input_start (fresh object)) bytes ≡ printed_of object bytes
+unfolding input_after cut printed_for
+printed_is object bytes = feed_promise (input_start (fresh object)) bytes (text_of_input (input_start (fresh object)) bytes) refl object [] refl
 
-pub ends_some : (b : Bool) (object out : List ℕ) (n : ℕ) → b ≡ false → EndsWith object (take n out) → EndsBy b object out n
-ends_some true object out n e w = clash (sym e)
-ends_some false object out n e w = w
+-- and with the text of the end it is what the reading gives the whole input
+pub ending_is : (object bytes : List ℕ) (e : InputState) → e ≡ input_after (input_start (fresh object)) bytes → text_of_input (input_start (fresh object)) bytes ++ ending_text e ≡ output_for object bytes
+unfolding ending_text
+ending_is object bytes e p =
+    let m = input_after (input_start (fresh object)) bytes in
+    ap (λ (x : InputState). text_of_input (input_start (fresh object)) bytes ++ (last_text x ++ end_text (last_gate x).session)) p
+    ∙ sym (append_assoc (text_of_input (input_start (fresh object)) bytes) (last_text m) (end_text (last_gate m).session)) ∙ whole_reading object bytes
+
+-- the text of the end is handed on, and taken or not; m is the program at its start
+ends_taken : (object : List ℕ) (m e : InputState) (left left' held was held' : Option (List ℕ)) (text : List ℕ) → m ≡ input_start (fresh object) → Fed m e left left' held was (Ok tt)
+    → text ≡ ending_text e → Appends was held' text → EndsFor object left left' held held' text (Ok tt)
+ends_taken object m e left left' held was held' text p f k w =
+    let f' : Fed (input_start (fresh object)) e left left' held was (Ok tt) = subst (λ (x : InputState). Fed x e left left' held was (Ok tt)) p f in
+    let before = text_of_input (input_start (fresh object)) f'.bytes in
+    let all : before ++ text ≡ output_for object f'.bytes = ap (λ (t : List ℕ). before ++ t) k ∙ ending_is object f'.bytes e f'.is in
+    record {
+      bytes = f'.bytes;
+      read = f'.read;
+      whole = f'.whole;
+      is = ap (λ (t : List ℕ). t ++ text) (sym (printed_is object f'.bytes)) ∙ all;
+      wrote = subst (λ (t : List ℕ). Appends held held' t) all (Appends-trans held was held' before text f'.wrote w);
+    }
+
+ends_untaken : (object : List ℕ) (m e : InputState) (left left' held was held' : Option (List ℕ)) (text : List ℕ) → m ≡ input_start (fresh object) → Fed m e left left' held was (Ok tt)
+    → text ≡ ending_text e → EndsFor object left left' held held' text (Err NoEnd)
+ends_untaken object m e left left' held was held' text p f k =
+    let f' : Fed (input_start (fresh object)) e left left' held was (Ok tt) = subst (λ (x : InputState). Fed x e left left' held was (Ok tt)) p f in
+    let before = text_of_input (input_start (fresh object)) f'.bytes in
+    record {
+      bytes = f'.bytes;
+      read = f'.read;
+      whole = f'.whole;
+      is = ap (λ (t : List ℕ). t ++ text) (sym (printed_is object f'.bytes)) ∙ ap (λ (t : List ℕ). before ++ t) k ∙ ending_is object f'.bytes e f'.is;
+      wrote = tt;
+    }
+
+-- a read failed, or a write before the end
+pub ends_failed : (object : List ℕ) (m e : InputState) (left left' held held' : Option (List ℕ)) (text : List ℕ) (why : GateError) → m ≡ input_start (fresh object) → Fed m e left left' held held' (Err why)
+    → text ≡ [] → EndsFor object left left' held held' text (Err why)
+ends_failed object m e left left' held held' text NoInput p f k =
+    record {
+      bytes = f.bytes;
+      read = f.read;
+      whole = tt;
+      is = k;
+      wrote = subst (λ (t : List ℕ). Appends held held' t) (ap (λ (x : InputState). text_of_input x f.bytes) p ∙ printed_is object f.bytes) f.wrote;
+    }
+ends_failed object m e left left' held held' text NoOutput p f k = record { bytes = f.bytes; read = f.read; whole = tt; is = k; wrote = tt }
+ends_failed object m e left left' held held' text NoEnd p f k = absurd f.wrote
+
+pub ends_with : (object : List ℕ) (m e : InputState) (left left' held was held' : Option (List ℕ)) (text : List ℕ) (r : Result Unit GateError) → m ≡ input_start (fresh object)
+    → Fed m e left left' held was (Ok tt) → text ≡ ending_text e → OnOk r (Appends was held' text) → IfErr r (λ (why : GateError). why ≡ NoEnd) → EndsFor object left left' held held' text r
+ends_with object m e left left' held was held' text (Ok done) p f k w n = ends_taken object m e left left' held was held' text p f k w
+ends_with object m e left left' held was held' text (Err why) p f k w n =
+    subst (λ (x : GateError). EndsFor object left left' held held' text (Err x)) (sym n) (ends_untaken object m e left left' held was held' text p f k)
+
+-- a reader whose bytes are known, fewer than no run comes to: all of them were read, and all that the reading gives them was written
+pub all_written : (object : List ℕ) (left left' held held' : Option (List ℕ)) (text : List ℕ) (r : Result Unit GateError) → EndsFor object left left' held held' text r
+    → OnOk r (IfSome left (λ (all : List ℕ). length all < 2 ^ 64 - 1 → Appends held held' (output_for object all)))
+all_written object None left' held held' text (Ok done) e = tt
+all_written object (Some all) None held held' text (Ok done) e = absurd e.read
+all_written object (Some all) (Some rest) held held' text (Ok done) e = by e.whole
+  where
+    by : ReadWhole (Some rest) e.bytes → length all < 2 ^ 64 - 1 → Appends held held' (output_for object all)
+    by (inl none) h = subst (λ (x : List ℕ). Appends held held' (output_for object x)) (sym (e.read ∙ ap (λ (x : List ℕ). e.bytes ++ x) none ∙ append-nil e.bytes)) e.wrote
+    by (inr long) h = absurd (omega (arith, long, h, ap length e.read, length-append e.bytes rest))
+all_written object left left' held held' text (Err why) e = tt

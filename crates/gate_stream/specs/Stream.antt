@@ -1,60 +1,93 @@
--- What was fed to the program, whether it goes on, and what is printed at the end.
+-- What was fed to the program, what it wrote, and what is printed at the end.
 -- Assumes nothing.
-use Rattle.std.specs.Prelude.{◌≡◌, Bool, true, false, not, ◌&&◌, ◌||◌, List, ◌++◌, ℕ, ◌-◌, ◌*◌, ◌^◌, ◌≤◌, ℤ, pos, negsuc, min, length, take}
-use Rattle.std.specs.Int.Signed.{lt_z}
+use Rattle.std.specs.Prelude.{◌≡◌, List, [], ◌∷◌, ◌++◌, ℕ, ◌-◌, ◌*◌, ◌^◌, ◌≤◌, ◌⊎◌, Option, Result, Ok, Err, OnOk, length, codes}
+use Rattle.std.specs.Io.KnownBytes.{Consumes, IsAtEnd, Appends}
 use Rattle.gate_lines.specs.Gate.{fresh, end_text}
 use Rattle.gate_lines.specs.Run.{SinceOpen, since_open, printed_for, end_for}
-use Rattle.gate_lines.specs.Input.{lines_in, InputState, input_after, last_gate, last_text, printed_of}
-use Rattle.gate_stream.specs.declared.Ending.{Ending}
+use Rattle.gate_lines.specs.Input.{lines_in, InputState, input_after, text_of_input, last_gate, last_text, printed_of}
+use Rattle.gate_stream.specs.declared.GateError.{GateError}
+use Rattle.gate_stream.specs.declared.GateError.TheVariants.{NoInput, NoOutput, NoEnd}
 
 -- How many bytes are read at once.
 abbrev pub read_size : ℕ
 read_size = 16384
 
--- The most that one byte of the input prints: `(refused 255)` and 0A, where the byte is the 0A of a line. And the room for what a block prints.
+-- The most that one byte of the input prints: `(refused 255)` and 0A, where the byte is the 0A of a line. And the room
+-- for what a block prints.
 abbrev pub reply_most : ℕ
 reply_most = 14
 
 abbrev pub out_size : ℕ
 out_size = read_size * reply_most
 
--- How many bytes a read gave, at most as many as there was room for, by the number that it gave: none where that is below 0.
-abbrev pub clamp_len : ℤ → ℕ → ℕ
-clamp_len (pos k) most = min k most
-clamp_len (negsuc k) most = 0
+-- Before the end of the input: every write was taken, or one was not, of which the library says nothing. The text of
+-- the end is not written yet.
+abbrev pub WhereTaken : Result Unit GateError → Type 0 → Type 0
+WhereTaken (Ok done) p = p
+WhereTaken (Err NoInput) p = p
+WhereTaken (Err NoOutput) p = Unit
+WhereTaken (Err NoEnd) p = ⊥
 
--- The program goes on: the read gave bytes, and standard output took what they print. A read gives 0 at the end of the input, and a number below where it fails.
-unfoldable pub goes_on : ℤ → Bool → Bool
-goes_on got taken = lt_z (pos 0) got && taken
+-- The input was read to its end, or so many bytes were read that no run comes to it.
+abbrev pub ReadWhole : Option (List ℕ) → List ℕ → Type 0
+ReadWhole left bytes = IsAtEnd left ⊎ (2 ^ 64 - 1 ≤ length bytes)
 
-unfoldable pub read_fails : ℤ → Bool
-read_fails got = lt_z got (pos 0)
-
--- There is no stamp: the last read failed, or standard output did not take what was written.
-unfoldable pub stops : ℤ → Bool → Bool
-stops got taken = read_fails got || not taken
-
--- The second state is what the first becomes by some bytes: those that were read. Where the program would still go on, so many bytes were read that no run
--- comes to it.
-pub record Fed (m n : InputState) (more : Bool) : Type 0 where
+-- The second state is what the first becomes by some bytes: those that the reader had first, of which `left` were left
+-- before and `left'` are now. What the definitions print for them was added to what the writer held. Where the reader's
+-- or the writer's bytes are not known, as those of the system, this leaves open which bytes were read or written.
+pub record Fed (m n : InputState) (left left' held held' : Option (List ℕ)) (r : Result Unit GateError) : Type 0 where
   pub bytes : List ℕ
   pub is : n ≡ input_after m bytes
-  pub all : more ≡ true → 2 ^ 64 - 1 ≤ length bytes
+  pub read : Consumes left left' bytes
+  pub whole : OnOk r (ReadWhole left' bytes)
+  pub wrote : WhereTaken r (Appends held held' (text_of_input m bytes))
 
 -- What is printed at the end of the input: the text of a last line without 0A, and the stamp or its refusal.
 unfoldable pub ending_text : InputState → List ℕ
 ending_text m = last_text m ++ end_text (last_gate m).session
 
--- The end of the program, for some bytes, those that were read: what the reading gives their whole lines, with the text after it, is what it gives all their lines
--- and, at the end, demand 3's stamp or its refusal. The object buffer had any content at first.
-pub record EndsWith (object text : List ℕ) : Type 0 where
+-- What the program prints for the bytes of the whole input by the reading: the answers to their lines, and at the end
+-- demand 3's stamp or its refusal.
+abbrev pub output_for : List ℕ → List ℕ → List ℕ
+output_for object bytes = printed_for (fresh object) SinceOpen.none (lines_in bytes) ++ end_for (since_open (fresh object) (lines_in bytes))
+
+-- What is handed on at the end, by how the program ended. After what the reading gives the whole lines, it makes up
+-- what the reading gives all the lines and, at the end, demand 3's stamp or its refusal. Nothing is handed on where a
+-- read failed, or a write before the end.
+abbrev pub EndsWith : List ℕ → List ℕ → List ℕ → Type 0
+EndsWith object bytes text = printed_of object bytes ++ text ≡ output_for object bytes
+
+abbrev pub EndsBy : Result Unit GateError → List ℕ → List ℕ → List ℕ → Type 0
+EndsBy (Ok done) object bytes text = EndsWith object bytes text
+EndsBy (Err NoEnd) object bytes text = EndsWith object bytes text
+EndsBy (Err NoInput) object bytes text = text ≡ []
+EndsBy (Err NoOutput) object bytes text = text ≡ []
+
+-- The input was read whole where neither a read nor a write before the end failed.
+abbrev pub ReadBy : Result Unit GateError → Option (List ℕ) → List ℕ → Type 0
+ReadBy (Ok done) left bytes = ReadWhole left bytes
+ReadBy (Err NoEnd) left bytes = ReadWhole left bytes
+ReadBy (Err NoInput) left bytes = Unit
+ReadBy (Err NoOutput) left bytes = Unit
+
+-- What was written in all, by how the program ended.
+abbrev pub WroteBy : Result Unit GateError → Option (List ℕ) → Option (List ℕ) → List ℕ → List ℕ → Type 0
+WroteBy (Ok done) held held' object bytes = Appends held held' (output_for object bytes)
+WroteBy (Err NoInput) held held' object bytes = Appends held held' (printed_of object bytes)
+WroteBy (Err NoOutput) held held' object bytes = Unit
+WroteBy (Err NoEnd) held held' object bytes = Unit
+
+-- The end of the program, for some bytes: those that the reader had first, all of them where neither a read nor a write
+-- before the end failed. The object buffer had any content at first.
+pub record EndsFor (object : List ℕ) (left left' held held' : Option (List ℕ)) (text : List ℕ) (r : Result Unit GateError) : Type 0 where
   pub bytes : List ℕ
-  pub is : printed_of object bytes ++ text ≡ printed_for (fresh object) SinceOpen.none (lines_in bytes) ++ end_for (since_open (fresh object) (lines_in bytes))
+  pub read : Consumes left left' bytes
+  pub whole : ReadBy r left' bytes
+  pub is : EndsBy r object bytes text
+  pub wrote : WroteBy r held held' object bytes
 
--- By the test: nothing is handed on at the end where a read or a write failed.
-abbrev pub EndsBy : Bool → List ℕ → List ℕ → ℕ → Type 0
-EndsBy true object out n = n ≡ 0
-EndsBy false object out n = EndsWith object (take n out)
-
-abbrev pub EndsFor : List ℕ → List ℕ → Ending → Type 0
-EndsFor object out r = EndsBy (stops r.got r.taken) object out r.wrote.count
+-- The line on standard error that says why there is no stamp.
+abbrev pub reason_of : GateError → List ℕ
+reason_of NoInput = codes "gate: the input cannot be read, so there is no stamp" ++ (0x0A ∷ [])
+reason_of NoOutput = codes "gate: standard output takes no more, so there is no stamp" ++ (0x0A ∷ [])
+reason_of NoEnd = codes "gate: standard output takes no more, so there is no stamp" ++ (0x0A ∷ [])

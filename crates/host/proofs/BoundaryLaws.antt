@@ -11,15 +11,14 @@ use lib.ListN.{length}
 use Rattle.card.specs.Object.{empty}
 use Rattle.common.proofs.TestLaws.{clash}
 use Rattle.session.specs.Ranges.{ranged_values, values_in_range, in_range}
-use Rattle.session.specs.Operation.{reply_number, given, dead, answer_refusal, answer_of, verdict_refusal, verdict_of, command_refusal, command_of, field_place, stamp_answer, preview_of}
+use Rattle.session.specs.Operation.{dead, answer_refusal, answer_of, verdict_refusal, verdict_of, command_refusal, command_of, field_place, stamp_answer, preview_of}
 use Rattle.session.specs.Promise.{Bytes, History, finish}
 use Rattle.session.specs.declared.state.Session.{Session}
-use Rattle.session.specs.declared.state.Answered.{Answered}
 use Rattle.session.proofs.PreviewLaws.{two_calls_number}
 use Rattle.session.proofs.PromiseLaws.{promise}
 use Rattle.session.proofs.RefusedLaws.{command_dead, answer_dead, verdict_dead, stamp_dead, preview_dead}
 use Rattle.host.specs.Image.{image_size, is_image, load_of, save_of}
-use Rattle.host.specs.Call.{image_after, where_number, ImageOf}
+use Rattle.host.specs.Call.{image_after, ImageOf}
 use Rattle.host.proofs.ImageLaws.{load_dead, save_load}
 
 -- ---- a refused call hands the session back
@@ -36,14 +35,14 @@ pub verdict_same : (s : Session) (kind yes_no : ℕ) (fascn : List ℕ) → ((ve
 unfolding verdict_of
 verdict_same s kind yes_no fascn h = by_refusal (eqb (verdict_refusal s kind yes_no fascn) 0) _ _ s h
 
--- and of a command call the count is 0
-pub command_same : (s : Session) (room : ℕ) → ((command_of s room).0 ≡ 0 → ⊥) → ((command_of s room).1 ≡ 0) × ((command_of s room).2 ≡ s)
+-- so does a command call, and its count is 0
+pub command_refused : (s : Session) (room : ℕ) {n : ℕ} → n ≡ (command_of s room).0 → (n ≡ 0 → ⊥) → ◌≡◌ {A = ℕ × ℕ × Session} (n, 0, s) (command_of s room)
 unfolding command_of
-command_same s room = by (eqb (command_refusal s room) 0) _ _
+command_refused s room {n} e h = by (eqb (command_refusal s room) 0) _ _ e
   where
-    by : (b : Bool) (n : ℕ) (x : Session) → let r = cond {A = ℕ × ℕ × Session} b (0, n, x) (command_refusal s room, 0, s) in (r.0 ≡ 0 → ⊥) → (r.1 ≡ 0) × (r.2 ≡ s)
-    by true n x h = absurd (h refl)
-    by false n x h = (refl, refl)
+    by : (b : Bool) (m : ℕ) (x : Session) → let r = cond {A = ℕ × ℕ × Session} b (0, m, x) (command_refusal s room, 0, s) in n ≡ r.0 → ◌≡◌ {A = ℕ × ℕ × Session} (n, 0, s) r
+    by true m x e = absurd (h e)
+    by false m x e = ap (λ (k : ℕ). (k, 0, s)) e
 
 -- and a stamp call always does
 pub stamp_given : (s : Session) (room : ℕ) {n : ℕ} → n ≡ (stamp_answer s room).0 → (n, s) ≡ stamp_answer s room
@@ -53,24 +52,17 @@ stamp_given s room e = ap (λ (k : ℕ). (k, s)) e
 -- ---- what is left
 
 -- the number, the image that is left, and that it has the session that the call gives
-pub kept : (b : List ℕ) (x : ℕ × Session) (r : Answered) {n : ℕ} {c : List ℕ} → given r ≡ x → n ≡ reply_number r.reply → c ≡ image_after b (given r) → (n ≡ 0 → load_of c ≡ r.session)
+pub kept : (b : List ℕ) (x : ℕ × Session) (s : Session) {k n : ℕ} {c : List ℕ} → (k, s) ≡ x → n ≡ k → c ≡ image_after b (n, s) → (n ≡ 0 → load_of c ≡ s)
     → ((x.0 ≡ 0 → ⊥) → x.1 ≡ load_of b) → (n ≡ x.0) × (c ≡ image_after b x) × ((n, load_of c) ≡ x)
-kept b x r {n} {c} e f g again same =
-    let number : n ≡ x.0 = f ∙ ap (λ (y : ℕ × Session). y.0) e in
-    let left : c ≡ image_after b x = g ∙ ap (image_after b) e in
+kept b x s {k} {n} {c} e f g again same =
+    let whole : (n, s) ≡ x = ap (λ (j : ℕ). (j, s)) f ∙ e in
+    let number : n ≡ x.0 = ap (λ (y : ℕ × Session). y.0) whole in
+    let left : c ≡ image_after b x = g ∙ ap (image_after b) whole in
     (number, left, ap₂ (λ (k : ℕ) (s : Session). (k, s)) number (by (eqb x.0 0) refl number left))
   where
     by : (t : Bool) → eqb x.0 0 ≡ t → n ≡ x.0 → c ≡ image_after b x → load_of c ≡ x.1
     by true h number left = again (number ∙ eqb-true x.0 0 h) ∙ ap (λ (y : ℕ × Session). y.1) e
     by false h number left = let d : c ≡ b = left ∙ rw h in ap load_of d ∙ sym (same (eqb-false x.0 0 h))
-
--- a count that is written where the call is accepted, and is 0 where it is not
-pub counted : (n m old : ℕ) {k : ℕ} → k ≡ where_number 0 n m old → ((n ≡ 0 → ⊥) → m ≡ 0) → where_number 0 n k 0 ≡ m
-counted n m old {k} e z = by (eqb n 0) refl
-  where
-    by : (t : Bool) → eqb n 0 ≡ t → where_number 0 n k 0 ≡ m
-    by true h = rw h (e ∙ rw h)
-    by false h = rw h (sym (z (eqb-false n 0 h)))
 
 -- ---- an image that comes from a history is the image of its session, byte for byte
 

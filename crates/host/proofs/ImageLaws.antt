@@ -7,12 +7,12 @@ use Prim.Native.Nat.{ℕ, zero, suc, ◌+◌, ◌*◌, ◌≤◌, ◌<◌}
 use native.Mathlib.Nat.{le_of_eq}
 use native.Mathlib.Omega.{arith}
 use lib.Dec.{eqb, leb}
-use lib.ListN.{length, get_or, take, drop, replicate, length-append, length-drop, length-replicate, take-append-drop}
+use lib.ListN.{length, get_or, take, drop, replicate, length-append, length-drop, take-append-drop}
 use lib.Seq.{take_at, drop_at, take_all, get_or_at, length-take-le}
 use borrow.Author.Tests.{leb-true, eqb-true}
-use Rattle.common.specs.Lists.{concat, list_of, over_places_where}
+use Rattle.std.specs.Int.{from_bool}
+use Rattle.common.specs.Lists.{concat, list_of}
 use Rattle.common.proofs.ListsLaws.{list_of_is}
-use Rattle.common.proofs.StoreLaws.{store_first, front_all}
 use Rattle.common.proofs.TestLaws.{and_left, and_right}
 use Rattle.card.specs.Object.{empty, most_fields}
 use Rattle.card.specs.declared.object.Part.{Part}
@@ -32,13 +32,10 @@ pub length_part : (p : Part) → length (part_bytes p) ≡ part_size
 unfolding part_bytes
 length_part p = length-append (high_first 4 p.start) (high_first 4 p.len) ∙ ap₂ ◌+◌ (length_high 4 p.start) (length_high 4 p.len)
 
-pub length_parts : (ps : List Part) → length ps ≡ most_fields → length (parts_bytes ps) ≡ 72
+pub length_parts : (ps : List Part) → length (parts_bytes ps) ≡ length ps * part_size
 unfolding parts_bytes
-length_parts ps e = rw (by ps, e)
-  where
-    by : (qs : List Part) → length (concat (map part_bytes qs)) ≡ length qs * part_size
-    by [] = refl
-    by (q ∷ qs) = omega (arith, length-append (part_bytes q) (concat (map part_bytes qs)), length_part q, by qs)
+length_parts [] = refl
+length_parts (p ∷ ps) = omega (arith, length-append (part_bytes p) (parts_bytes ps), length_part p, length_parts ps)
 
 part_again : (p : Part) → PartFits p → part_of_bytes (part_bytes p) ≡ p
 unfolding part_of_bytes part_bytes
@@ -62,6 +59,11 @@ parts_sized (p ∷ ps) q zero e = absurd (omega arith)
 parts_sized (p ∷ ps) q (suc n) e = more (length_part p) (parts_sized ps q n (omega arith))
 
 -- ---- values of one byte
+
+-- a flag's byte as the kit has it
+pub flag_from : (b : Bool) → from_bool b ≡ flag_byte b
+flag_from true = refl
+flag_from false = refl
 
 flag_again : (b : Bool) → (eqb (flag_byte b) 1 ≡ b) × (leb (flag_byte b) 1 ≡ true)
 flag_again true = (refl, refl)
@@ -188,13 +190,3 @@ load_dead b h = rw h
 pub load_zeros : load_of (replicate image_size 0) ≡ dead
 unfolding load_of is_image segments_in cut_from
 load_zeros = refl
-
--- ---- what the code stores and cuts out
-
--- an array that a part of the bytes fills
-pub array_in : (b : List ℕ) (at n : ℕ) {a p : List ℕ} → at + n ≤ length b → p ≡ take n (drop at b) → a ≡ over_places_where (replicate n 0) 0 p → a ≡ take n (drop at b)
-array_in b at n {a} {p} h e f =
-    let k : length p ≡ n = ap length e ∙ length_cut b at n h in
-    let zeros : List ℕ = replicate n 0 in
-    let room : length zeros ≡ n = length-replicate {A = ℕ} n 0 in
-    f ∙ store_first zeros p (omega (arith, k, room)) ∙ front_all p zeros (omega (arith, k, room)) ∙ e

@@ -9,3 +9,5 @@ pub mod ImageLaws
 pub mod SaveLaws
 -- BoundaryLaws: what a call over an image leaves, and demand 3 at the boundary
 pub mod BoundaryLaws
+-- AnswerLaws: what a call gives through a pointer
+pub mod AnswerLaws

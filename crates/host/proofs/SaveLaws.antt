@@ -1,20 +1,23 @@
--- The image as the code stores it, segment after segment, and step 1's parts, three at a time.
+-- The image as the code stores it, segment after segment, and step 1's parts, one after another.
 -- Assumes nothing.
-use mathlib.Core.Path.{◌≡◌, refl, sym, ap, ap₂, ◌∙◌}
+use mathlib.Core.Path.{◌≡◌, sym, ap, ap₂, ◌∙◌}
 use mathlib.Core.List.{List, [], ◌∷◌, ◌++◌, map, append-nil, append_assoc}
-use Prim.Native.Nat.{ℕ, zero, suc, ◌+◌, ◌≤◌, ◌<◌}
+use Prim.Native.Nat.{ℕ, ◌+◌, ◌*◌, ◌≤◌, ◌<◌}
 use native.Mathlib.Nat.{le_of_eq, zero-add}
 use native.Mathlib.Omega.{arith}
-use lib.ListN.{length, get_or, length-append}
+use borrow.Author.Count.{below_more}
+use lib.ListN.{length, get_or, take, length-append}
+use lib.Seq.{take_all, length-take-le}
+use Rattle.std.proofs.lemmas.List.{take_more, map-append}
 use Rattle.common.specs.Lists.{concat, over_places, over_places_where}
-use Rattle.common.proofs.ListsLaws.{over_first, length_over}
+use Rattle.common.proofs.ListsLaws.{over_first, over_none, length_over}
 use Rattle.common.proofs.StoreLaws.{store_fits, front_all}
-use Rattle.card.specs.Object.{empty, most_fields}
+use Rattle.card.specs.Object.{empty}
 use Rattle.card.specs.declared.object.Part.{Part}
 use Rattle.session.specs.declared.state.Session.{Session}
-use Rattle.host.specs.Image.{high_first, part_bytes, parts_bytes, small_bytes, save_of, PartFits, PartsFit}
+use Rattle.host.specs.Image.{high_first, part_bytes, parts_bytes, small_bytes, save_of, PartFits}
 use Rattle.host.proofs.NumberLaws.{over_on}
-use Rattle.host.proofs.ImageLaws.{length_part}
+use Rattle.host.proofs.ImageLaws.{length_parts}
 
 -- ---- segment after segment
 
@@ -49,49 +52,32 @@ pub saved : (s : Session) →
 unfolding save_of parts_bytes
 saved s = rw (concat_end (map part_bytes s.card.step1) (part_bytes s.card.step2)) (simp append_assoc)
 
--- ---- nine parts
+-- ---- part after part
 
--- f 0, f 1, .., f (n - 1)
-abbrev tabulate : ℕ → (ℕ → Part) → List Part
-tabulate zero f = []
-tabulate (suc n) f = f 0 ∷ tabulate n (λ i. f (suc i))
+-- of the parts ps, the first i are stored in d from place at on, and each of them fits; m is the list then
+pub record PartsSoFar (d : List ℕ) (at : ℕ) (ps : List Part) (i : ℕ) (m : List ℕ) : Type 0 where
+  pub is : m ≡ over_places d at (parts_bytes (take i ps))
+  pub fit : (k : ℕ) → k < i → PartFits (get_or ps k empty)
 
-tabulated : (n : ℕ) (ps : List Part) → length ps ≡ n → ps ≡ tabulate n (λ i. get_or ps i empty)
-tabulated zero [] e = refl
-tabulated zero (p ∷ ps) e = absurd (omega arith)
-tabulated (suc n) [] e = absurd (omega arith)
-tabulated (suc n) (p ∷ ps) e = ap (λ (r : List Part). p ∷ r) (tabulated n ps (omega arith))
-
--- three parts from place i on
-abbrev pub three_from : List Part → ℕ → List ℕ
-three_from ps i = part_bytes (get_or ps i empty) ++ part_bytes (get_or ps (i + 1) empty) ++ part_bytes (get_or ps (i + 2) empty)
-
-pub length_three : (ps : List Part) (i : ℕ) → length (three_from ps i) ≡ 24
-length_three ps i =
-    let p = get_or ps i empty in
-    let q = get_or ps (i + 1) empty in
-    let r = get_or ps (i + 2) empty in
-    omega (arith, length-append (part_bytes p ++ part_bytes q) (part_bytes r), length-append (part_bytes p) (part_bytes q), length_part p, length_part q, length_part r)
-
-pub three_by_three : (ps : List Part) → length ps ≡ most_fields → three_from ps 0 ++ three_from ps 3 ++ three_from ps 6 ≡ parts_bytes ps
+-- no part is stored yet
+pub parts_none : (d : List ℕ) (at : ℕ) (ps : List Part) → PartsSoFar d at ps 0 d
 unfolding parts_bytes
-three_by_three ps e = rw (tabulated most_fields ps e) (simp (append_assoc, append-nil))
+parts_none d at ps = record { is = sym (over_none d at); fit = λ k h. absurd (omega arith) }
 
--- each fits where nine do
-abbrev ThreeFit : List Part → ℕ → Type 0
-ThreeFit ps i = PartFits (get_or ps i empty) × PartFits (get_or ps (i + 1) empty) × PartFits (get_or ps (i + 2) empty)
+-- one more
+pub parts_more : {d m r : List ℕ} {at : ℕ} {ps : List Part} {i : ℕ} → PartsSoFar d at ps i m → i < length ps → at + (i + 1) * 8 ≤ length d
+    → r ≡ over_places m (at + i * 8) (part_bytes (get_or ps i empty)) → PartFits (get_or ps i empty) → PartsSoFar d at ps (i + 1) r
+unfolding parts_bytes
+parts_more {d} {m} {r} {at} {ps} {i} p h room e f =
+    let front = take i ps in
+    let long : length (parts_bytes front) ≡ i * 8 = length_parts front ∙ ap (λ (n : ℕ). n * 8) (length-take-le i ps (omega arith)) in
+    let next : parts_bytes front ++ part_bytes (get_or ps i empty) ≡ parts_bytes (take (i + 1) ps) =
+    sym (rw (take_more ps i empty h, map-append part_bytes front (get_or ps i empty ∷ [])) (concat_end (map part_bytes front) (part_bytes (get_or ps i empty)))) in
+    record {
+      is = over_on d (parts_bytes front) (part_bytes (get_or ps i empty)) p.is e (ap (λ (n : ℕ). at + n) (sym long)) (omega arith) ∙ ap (over_places d at) next;
+      fit = below_more _ _ p.fit f;
+    }
 
-pub nine_fit : (ps : List Part) → length ps ≡ most_fields → ThreeFit ps 0 → ThreeFit ps 3 → ThreeFit ps 6 → PartsFit ps
-nine_fit ps e a b c = record { count = e; each = each }
-  where
-    each : (i : ℕ) → i < length ps → PartFits (get_or ps i empty)
-    each zero l = a.0
-    each (suc zero) l = a.1
-    each (suc (suc zero)) l = a.2
-    each (suc (suc (suc zero))) l = b.0
-    each (suc (suc (suc (suc zero)))) l = b.1
-    each (suc (suc (suc (suc (suc zero))))) l = b.2
-    each (suc (suc (suc (suc (suc (suc zero)))))) l = c.0
-    each (suc (suc (suc (suc (suc (suc (suc zero))))))) l = c.1
-    each (suc (suc (suc (suc (suc (suc (suc (suc zero)))))))) l = c.2
-    each (suc (suc (suc (suc (suc (suc (suc (suc (suc i))))))))) l = absurd (omega (arith, e))
+-- all are stored
+pub parts_end : {d m : List ℕ} {at : ℕ} {ps : List Part} {i : ℕ} → PartsSoFar d at ps i m → length ps ≤ i → m ≡ over_places d at (parts_bytes ps)
+parts_end {d} {at = at} {ps} p h = p.is ∙ ap (λ (qs : List Part). over_places d at (parts_bytes qs)) (take_all _ ps h)

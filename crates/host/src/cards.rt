@@ -7,6 +7,7 @@ ghost use Rattle.session.specs.Tables.{since, object_size, stamp_size, answer_mo
 ghost use Rattle.host.specs.Image.{image_size};
 ghost use Rattle.host.specs.Call.{where_number};
 
+use crate::answer::write_value;
 use crate::image::IMAGE;
 use card::command::{AID_LEAST, AID_MOST, COMMAND_MOST};
 use card::fascn;
@@ -19,14 +20,7 @@ pub fn gate_unpack(fascn: &[u8], digits: &mut [u8; DIGITS]) -> u8
     ensures number { result ≡ (unpack_of fascn.now).0 }
     ensures is { digits.new ≡ where_number 0 result (unpack_of fascn.now).1 digits.old }
 {
-    let unpacked = fascn::unpack(fascn);
-    let answer = unpacked.answer;
-    let n = answer.number();
-    if n == 0 {
-        let all = unpacked.digits;
-        *digits = all;
-    }
-    n
+    write_value(fascn::unpack(fascn), digits)
 }
 
 // Pack: the 25 bytes of the FASC-N with 32 digits.
@@ -34,27 +28,20 @@ pub fn gate_pack(digits: &[u8; DIGITS], fascn: &mut [u8; FASCN_BYTES]) -> u8
     ensures number { result ≡ (pack_of digits.now).0 }
     ensures is { fascn.new ≡ where_number 0 result (pack_of digits.now).1 fascn.old }
 {
-    let packed = fascn::pack(*digits);
-    let answer = packed.answer;
-    let n = answer.number();
-    if n == 0 {
-        let all = packed.bytes;
-        *fascn = all;
-    }
-    n
+    write_value(fascn::pack(*digits), fascn)
 }
 
 // Key: the first 16 of 32 digits as one number.
 pub fn gate_key(digits: &[u8; DIGITS]) -> u64
     ensures { result ≡ key_of digits.now }
 {
-    let key = fascn::key_of(*digits);
-    key.0
+    fascn::key_of(*digits).0
 }
 
-// Sizes in bytes: a session's image, the object buffer, a stamp; the most of a command and of an answer; the least and the most of an AID; a FASC-N, its digits, and a list line.
+// Sizes in bytes: a session's image, the object buffer, a stamp; the most of a command and of an answer; the least and
+// the most of an AID; a FASC-N, its digits, and a list line.
 #[repr(C)]
-#[derive(Clone, Copy)]
+#[derive(Clone, Copy, Debug, PartialEq, Eq)]
 pub struct Sizes {
     pub session: usize,
     pub object: usize,

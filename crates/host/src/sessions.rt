@@ -1,45 +1,52 @@
-// The session's calls over its image, for C and Rust. Each gives the papers' number, 0 where it is accepted; a refused one leaves every byte as it was.
+// The session's calls over its image, for C and Rust. Each gives the papers' number, 0 where it is accepted; a refused
+// one leaves every byte as it was.
 ghost use Rattle.std.specs.Prelude.{◌≡◌, length};
+ghost use Rattle.common.specs.Refusal.{number_in};
 ghost use Rattle.card.specs.Object.{bytes_at};
-ghost use Rattle.session.specs.Operation.{reply_number, given, open_of, command_of, command_buffer, answer_of, answer_buffer, verdict_of, field_place, stamp_answer, stamp_buffer, preview_of};
+ghost use Rattle.session.specs.Operation.{refusal_number, open_of, command_of, command_buffer, answer_of, answer_buffer, verdict_of, field_place, stamp_answer, stamp_buffer, preview_of};
 ghost use Rattle.session.specs.Promise.{OpenPromise, CommandPromise, AnswerPromise, VerdictPromise, FieldPromise, StampPromise, PreviewPromise};
 ghost use Rattle.host.specs.Image.{load_of};
 ghost use Rattle.host.specs.Call.{image_after, where_number, place_given};
 
+use crate::image;
 use crate::image::IMAGE;
-use crate::{image, number};
+use common::refusal;
+use common::refusal::Numbered;
 use session::open;
-use session::state::Answered;
+use session::state::{Refusal, Session};
 
-// Where the value of a field lies in the object buffer.
+// Where the value of a field lies in the object buffer. For C, which has no slices: gate_field.
 #[repr(C)]
-#[derive(Clone, Copy)]
+#[derive(Clone, Copy, Debug, PartialEq, Eq)]
 pub struct FieldPlace {
     pub start: usize,
     pub length: usize,
 }
 
-// The session that a call hands back is saved where the call is accepted; its number.
-fn keep(x: Answered, image: &mut [u8; IMAGE]) -> u8
-    ensures number { result ≡ reply_number x.reply }
-    ensures is { image.new ≡ image_after image.old (given x) }
-    ensures again { result ≡ 0 → load_of image.new ≡ x.session }
+// The session that a call hands back is saved where the call is accepted. What comes back is the reply's number.
+fn keep(session: Session, reply: Result<(), Refusal>, image: &mut [u8; IMAGE]) -> u8
+    ensures number { result ≡ number_in refusal_number reply }
+    ensures is { image.new ≡ image_after image.old (result, session) }
+    ensures again { result ≡ 0 → load_of image.new ≡ session }
 {
-    let reply = x.reply;
-    let n = reply.number();
-    if n == 0 {
-        image::save(x.session, image);
+    match reply {
+        Ok(()) => {
+            image::save(session, image);
+            0
+        }
+        Err(e) => e.number(),
     }
-    n
 }
 
-// Open: an accepted opening puts its session into the image. A refused one leaves what was there, as every refused call does.
+// Open: an accepted opening puts its session into the image. A refused one leaves what was there, as every refused call
+// does.
 pub fn gate_open(image: &mut [u8; IMAGE], mode: u8, date: u32, aid: &[u8]) -> u8
     ensures number { result ≡ (open_of mode date aid.now).0 }
     ensures is { image.new ≡ image_after image.old (open_of mode date aid.now) }
     ensures for_every_list { OpenPromise mode date aid.now result (load_of image.new) }
 {
-    keep(open::open(mode, date, aid), image)
+    let opened = open::open(mode, date, aid);
+    keep(opened.session, opened.reply, image)
 }
 
 // Command: its bytes at the front of out, and their count.
@@ -51,11 +58,14 @@ pub fn gate_command(image: &mut [u8; IMAGE], out: &mut [u8], count: &mut usize) 
     ensures for_every_list { CommandPromise (load_of image.old) out.old out.new result (where_number 0 result count.new 0) (load_of image.new) }
 {
     let sent = image::load(image).command(out);
-    let session = sent.session;
-    let reply = sent.reply;
-    let n = keep(Answered { session, reply }, image);
-    number::write_where(n, 0, sent.count, count);
-    n
+    match sent.reply {
+        Ok(n) => {
+            image::save(sent.session, image);
+            *count = n;
+            0
+        }
+        Err(e) => e.number(),
+    }
 }
 
 // Answer.
@@ -71,7 +81,7 @@ pub fn gate_answer(
     ensures for_every_list { AnswerPromise (load_of image.old) object.old answer.now cancelled.now object.new result (load_of image.new) }
 {
     let answered = image::load(image).answer(object, answer, cancelled);
-    keep(answered, image)
+    keep(answered.session, answered.reply, image)
 }
 
 // Verdict.
@@ -81,7 +91,7 @@ pub fn gate_verdict(image: &mut [u8; IMAGE], kind: u8, yes: u8, fascn: &[u8]) ->
     ensures for_every_list { VerdictPromise (load_of image.old) kind yes fascn.now result (load_of image.new) }
 {
     let answered = image::load(image).verdict(kind, yes, fascn);
-    keep(answered, image)
+    keep(answered.session, answered.reply, image)
 }
 
 // Preview: the stamp that this verdict and then a stamp call would write, to the first 46 bytes of out.
@@ -89,8 +99,7 @@ pub fn gate_preview(image: &[u8; IMAGE], kind: u8, yes: u8, fascn: &[u8], out: &
     ensures is { (result, out.new) ≡ preview_of (load_of image.now) kind yes fascn.now out.old }
     ensures for_every_list { PreviewPromise (load_of image.now) kind yes fascn.now out.old out.new result }
 {
-    let reply = image::load(image).preview(kind, yes, fascn, out);
-    reply.number()
+    refusal::number(&image::load(image).preview(kind, yes, fascn, out))
 }
 
 // Field: where its value lies in the object buffer; no bytes where the field call gives the empty part.
@@ -111,7 +120,5 @@ pub fn gate_stamp(image: &[u8; IMAGE], out: &mut [u8]) -> u8
     ensures is { out.new ≡ stamp_buffer (load_of image.now) out.old }
     ensures for_every_list { StampPromise (load_of image.now) out.old out.new result (load_of image.now) }
 {
-    let answered = image::load(image).stamp(out);
-    let reply = answered.reply;
-    reply.number()
+    refusal::number(&image::load(image).stamp(out).reply)
 }

@@ -7,7 +7,8 @@ ghost use Rattle.host.specs.Call.{where_number};
 
 use host::lists;
 
-// List read: the keys to the front of keys and how many to count; beside 20 the number of the first malformed line to line.
+// List read: the keys to the front of keys and how many to count; beside 20 the number of the first malformed line to
+// line.
 #[unsafe(no_mangle)]
 pub extern "C" fn gate_list_read(
     text: &[u8],

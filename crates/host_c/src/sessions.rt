@@ -1,4 +1,5 @@
-// The session's calls over its image. Each gives the papers' number, 0 where it is accepted; a refused one leaves every byte as it was.
+// The session's calls over its image. Each gives the papers' number, 0 where it is accepted; a refused one leaves every
+// byte as it was.
 ghost use Rattle.std.specs.Prelude.{◌≡◌, length};
 ghost use Rattle.card.specs.Object.{bytes_at};
 ghost use Rattle.session.specs.Operation.{open_of, command_of, command_buffer, answer_of, answer_buffer, verdict_of, field_place, stamp_answer, stamp_buffer, preview_of};
@@ -10,7 +11,8 @@ use host::image::IMAGE;
 use host::sessions;
 use host::sessions::FieldPlace;
 
-// Open: an accepted opening puts its session into the image. A refused one leaves what was there, as every refused call does.
+// Open: an accepted opening puts its session into the image. A refused one leaves what was there, as every refused call
+// does.
 #[unsafe(no_mangle)]
 pub extern "C" fn gate_open(image: &mut [u8; IMAGE], mode: u8, date: u32, aid: &[u8]) -> u8
     ensures number { result ≡ (open_of mode date aid.now).0 }

@@ -4,6 +4,10 @@ use Rattle.std.specs.Prelude.{cond, List, [], ◌∷◌, ◌++◌, ℕ, eqb, len
 use Rattle.append.specs.Append.{texts_of, number_text}
 use Rattle.text.specs.Hex.{hex_of}
 
+-- The most bytes of a line.
+abbrev pub line_most : ℕ
+line_most = 512
+
 abbrev pub space : List ℕ
 space = 0x20 ∷ []
 

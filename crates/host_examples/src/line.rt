@@ -1,44 +1,46 @@
 // The text of a line: a word, numbers in decimal and bytes in hexadecimal, each after a space.
-ghost use Rattle.std.specs.Prelude.{length};
-ghost use Rattle.append.specs.Append.{Added};
-ghost use Rattle.host_examples.specs.LineText.{number_part, numbers_part, bytes_part, line_text};
+#![tactic(auto, using(append::proofs::AppendLaws::texts), unfolding(crate::specs::LineText::number_part, crate::specs::LineText::bytes_part, crate::specs::LineText::line_text))]
+
+ghost use Rattle.std.specs.Prelude.{◌≡◌, [], ◌∷◌, ◌++◌};
+ghost use Rattle.append.specs.Append.{added};
+ghost use Rattle.host_examples.specs.LineText.{line_most, number_part, numbers_part, bytes_part, line_text};
+
+use crate::LINE_MOST;
+use append::Text;
 
 // A number.
-fn add_number(out: &mut [u8], at: usize, n: u64) -> usize
-    ensures { Added out.old at out.new result (number_part n) }
+fn add_number(out: &mut Text<LINE_MOST>, n: u64)
+    ensures { out.new ≡ added line_most out.old (number_part n) }
 {
-    let space = append::add(out, at, b" ");
-    append::add_decimal(out, space, n)
+    out.add(b" ");
+    out.add_decimal(n);
 }
 
-// Numbers, one after another.
-fn add_numbers(out: &mut [u8], at: usize, numbers: &[u64]) -> usize
-    ensures { Added out.old at out.new result (numbers_part numbers.now) }
+// A word, and numbers, one after another.
+fn add_numbers(out: &mut Text<LINE_MOST>, word: &[u8], numbers: &[u64])
+    ensures { out.new ≡ added line_most out.old (word.now ++ numbers_part numbers.now) }
 {
-    let mut end = append::add(out, at, b"");
-    for i in 0..numbers.len() {
-        end = add_number(out, end, numbers[i]);
+    out.add(word);
+    for n in numbers {
+        add_number(out, *n);
     }
-    end
 }
 
-// Bytes; nothing where there are none.
-fn add_bytes(out: &mut [u8], at: usize, bytes: &[u8]) -> usize
-    ensures { Added out.old at out.new result (bytes_part bytes.now) }
+// Bytes; nothing where there are none. The line ends.
+fn add_bytes(out: &mut Text<LINE_MOST>, bytes: &[u8])
+    ensures { out.new ≡ added line_most out.old (bytes_part bytes.now ++ (0x0A ∷ [])) }
 {
-    if bytes.len() == 0 {
-        return append::add(out, at, b"");
+    if !bytes.is_empty() {
+        out.add(b" ");
+        out.add_hex(bytes);
     }
-    let space = append::add(out, at, b" ");
-    append::add_hex(out, space, bytes)
+    out.add(b"\n");
 }
 
-// The line, from the first place on.
-pub(crate) fn add_line(out: &mut [u8], word: &[u8], numbers: &[u64], bytes: &[u8]) -> usize
-    ensures { Added out.old 0 out.new result (line_text word.now numbers.now bytes.now) }
+// The line, after what stands in the buffer.
+pub(crate) fn add_line(out: &mut Text<LINE_MOST>, word: &[u8], numbers: &[u64], bytes: &[u8])
+    ensures { out.new ≡ added line_most out.old (line_text word.now numbers.now bytes.now) }
 {
-    let head = append::add(out, 0, word);
-    let counted = add_numbers(out, head, numbers);
-    let spelled = add_bytes(out, counted, bytes);
-    append::add(out, spelled, b"\n")
+    add_numbers(out, word, numbers);
+    add_bytes(out, bytes);
 }

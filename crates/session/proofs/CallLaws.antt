@@ -5,11 +5,15 @@ use mathlib.Core.Bool.{Bool, true, false, cond, not, ◌&&◌, ◌||◌}
 use mathlib.Core.List.{List, [], ◌∷◌}
 use Prim.Native.Nat.{ℕ, ◌+◌, ◌-◌, ◌≤◌}
 use native.Mathlib.Nat.{add-sub_cancel_left}
-use borrow.Author.Tests.{eq-eqb, ne_eqb, eqb-true, not-false, ltb-false, leb-true}
+use borrow.Author.Tests.{eq-eqb, ne_eqb, eqb-true, eqb-false, not-false, ltb-false, leb-true}
 use lib.Dec.{eqb, leb}
 use lib.ListN.{length, take, drop}
 use lib.Seq.{drop-drop}
+use Rattle.std.specs.Prelude.{Result, Ok, Err}
+use Rattle.std.specs.Result.{is_err}
 use Rattle.common.specs.Lists.{over_front}
+use Rattle.card.specs.Fascn.{unpack_never_zero, unpacked}
+use Rattle.card.specs.declared.fascn.UnpackError.{UnpackError}
 use Rattle.card.specs.Object.{empty, bytes_at}
 use Rattle.card.specs.declared.object.Part.{Part}
 use Rattle.card.specs.Command.{aid_most}
@@ -17,7 +21,7 @@ use Rattle.card.proofs.CommandLaws.{aid_most_lem}
 use Rattle.session.specs.Tables.{since, object_size, base_of, step_read, step_of_tag, status_size, answer_most, data_of, status_bytes, stamp_size}
 use Rattle.session.specs.Condition.{open_conditions, answer_conditions, field_refused, stamp_conditions}
 use Rattle.session.specs.Ranges.{in_range, out_of_range}
-use Rattle.session.specs.Operation.{open_refusal, answer_refusal, answer_taken_session, answer_taken_buffer, answer_of, answer_buffer, stamp_in, stamp_refusal, stamp_buffer, part_for, field_place, field_of}
+use Rattle.session.specs.Operation.{open_refusal, answer_refusal, answer_taken_session, answer_taken_buffer, answer_of, answer_buffer, stamp_in, stamp_refusal, stamp_answer, stamp_buffer, part_for, field_place, field_of}
 use Rattle.session.specs.declared.state.Session.{Session}
 use Rattle.common.proofs.TestLaws.{and_left, and_right, or_left, or_right}
 use Rattle.common.proofs.ConditionLaws.{none_fit}
@@ -38,6 +42,17 @@ accepts s e z f = rw (none e z, z, f)
 
 pub refuses : {A : Type 0} {n k : ℕ} {x s : A} (y : A) → n ≡ k → (n ≡ 0 → ⊥) → x ≡ s → ◌≡◌ {A = ℕ × A} (n, x) (cond (eqb k 0) (0, y) (k, s))
 refuses y e f p = rw (some e f, e, p)
+
+-- and what either says of the definition's number
+given_by : {A : Type 0} (b : Bool) (k : ℕ) {n : ℕ} {x : A} (y s : A) → eqb k 0 ≡ b → ◌≡◌ {A = ℕ × A} (n, x) (cond b (0, y) (k, s)) → ((n ≡ 0 → (k ≡ 0) × (x ≡ y)) × ((n ≡ 0 → ⊥) → n ≡ k))
+given_by {A} true k y s p e = (λ z. (eqb-true k 0 p, ap (λ (q : ℕ × A). q.1) e), λ f. absurd (f (ap (λ (q : ℕ × A). q.0) e)))
+given_by {A} false k y s p e = (λ z. absurd (eqb-false k 0 p (sym (ap (λ (q : ℕ × A). q.0) e) ∙ z)), λ f. ap (λ (q : ℕ × A). q.0) e)
+
+pub when_accepted : {A : Type 0} (k : ℕ) {n : ℕ} {x : A} (y s : A) → ◌≡◌ {A = ℕ × A} (n, x) (cond (eqb k 0) (0, y) (k, s)) → n ≡ 0 → (k ≡ 0) × (x ≡ y)
+when_accepted k y s e z = (given_by (eqb k 0) k y s refl e).0 z
+
+pub when_refused : {A : Type 0} (k : ℕ) {n : ℕ} {x : A} (y s : A) → ◌≡◌ {A = ℕ × A} (n, x) (cond (eqb k 0) (0, y) (k, s)) → (n ≡ 0 → ⊥) → n ≡ k
+when_refused k y s e f = (given_by (eqb k 0) k y s refl e).1 f
 
 -- ---- open
 
@@ -72,6 +87,13 @@ pub answer_refused_lem : (s : Session) (object bytes cancelled : List ℕ) {n : 
     → ((n, s) ≡ answer_of s object bytes cancelled) × (object ≡ answer_buffer s object bytes)
 answer_refused_lem s object bytes cancelled e f =
     let u = answer_unchanged s object bytes cancelled (λ z. f (e ∙ z)) in (ap (λ (k : ℕ). (k, s)) e ∙ sym u.0, sym u.1)
+
+-- ---- verdict
+
+-- bytes are refused by their number where they are not unpacked
+pub unpack_test : (r : Result (List ℕ) UnpackError) {p : ℕ × List ℕ} → unpacked r ≡ p → not (eqb p.0 0) ≡ is_err r
+unpack_test (Ok digits) e = rw (← e) refl
+unpack_test (Err x) e = rw (← e, unpack_never_zero x) refl
 
 -- ---- field
 
@@ -118,6 +140,10 @@ part_cut object p = rw add-sub_cancel_left
 pub stamp_fits : (s : Session) (room : ℕ) → stamp_refusal s room ≡ 0 → stamp_size since ≤ room
 unfolding stamp_refusal
 stamp_fits s room e = ltb-false room (stamp_size since) (none_fit ((4, out_of_range s) ∷ stamp_conditions since room) refl e).1.0
+
+pub stamp_given : (s : Session) (room : ℕ) {k : ℕ} → k ≡ stamp_refusal s room → (k, s) ≡ stamp_answer s room
+unfolding stamp_answer
+stamp_given s room e = ap (λ (k : ℕ). (k, s)) e
 
 pub stamp_accepted : (s : Session) (out : List ℕ) {k : ℕ} {left : List ℕ} → k ≡ stamp_refusal s (length out) → k ≡ 0 → left ≡ over_front (stamp_in s) out → left ≡ stamp_buffer s out
 unfolding stamp_buffer

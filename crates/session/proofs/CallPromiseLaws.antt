@@ -1,12 +1,12 @@
 -- The promise as the contracts carry it: what each call gives and leaves, for every history that reaches its session.
 -- Assumes nothing.
 use mathlib.Core.Path.{◌≡◌, refl, sym, ap, ap₂, subst, ◌∙◌}
-use mathlib.Core.Bool.{Bool, true, false, cond}
+use mathlib.Core.Bool.{Bool, true, cond}
 use mathlib.Core.Logic.{◌↔◌}
 use mathlib.Core.List.{List, []}
 use Prim.Native.Nat.{ℕ}
 use native.Mathlib.Omega.{arith}
-use borrow.Author.Tests.{eqb-true, eqb-false, eq-eqb, not-false}
+use borrow.Author.Tests.{eq-eqb, not-false}
 use lib.Dec.{eqb}
 use lib.ListN.{length, get_or, take, drop}
 use lib.Seq.{take_at}
@@ -19,13 +19,13 @@ use Rattle.session.specs.Tables.{since, mode_opens, stamp_size}
 use Rattle.session.specs.Condition.{open_conditions}
 use Rattle.session.specs.Reading.{Arguments, refused_by}
 use Rattle.session.specs.Finding.{finding, stamp_of}
-use Rattle.session.specs.Operation.{dead, opened, open_refusal, open_of, command_of, command_buffer, answer_refusal, answer_of, answer_buffer, verdict_of, field_place, field_of, stamp_answer, stamp_buffer, preview_refusal, preview_of}
+use Rattle.session.specs.Operation.{dead, opened, open_refusal, open_of, command_of, command_buffer, answer_refusal, answer_of, answer_buffer, verdict_of, field_place, field_of, stamp_answer, stamp_buffer, preview_of}
 use Rattle.session.specs.Promise.{Call, Bytes, good_opening, History, finish, reading_of, Result, StampSays, OpenedBy, OpenPromise, CommandPromise, AnswerPromise, VerdictPromise, FieldPromise, PlacePromise, StampPromise, PreviewPromise}
 use Rattle.session.specs.declared.state.Session.{Session}
 use Rattle.common.proofs.TestLaws.{and_both}
 use Rattle.session.proofs.FigureLaws.{opens_in_range, stamp_long}
 use Rattle.common.proofs.ConditionLaws.{none_fit}
-use Rattle.session.proofs.CallLaws.{place_value}
+use Rattle.session.proofs.CallLaws.{when_accepted, place_value}
 use Rattle.session.proofs.StampLaws.{stamp_length, stamp_second}
 use Rattle.session.proofs.RunLaws.{zero_or}
 use Rattle.session.proofs.HistoryLaws.{with_call, extended}
@@ -51,14 +51,10 @@ opening_begins mode date aid object e =
       host = refl;
     }
 
-opened-zero : (k : ℕ) (s d x : Session) (n : ℕ) (b : Bool) → eqb k 0 ≡ b → (n, x) ≡ cond {A = ℕ × Session} b (0, s) (k, d) → n ≡ 0 → (k ≡ 0) × (x ≡ s)
-opened-zero k s d x n true p e z = (eqb-true k 0 p, ap (λ (y : ℕ × Session). y.1) e)
-opened-zero k s d x n false p e z = absurd (eqb-false k 0 p (sym (ap (λ (y : ℕ × Session). y.0) e) ∙ z))
-
 pub open_promise : (mode date : ℕ) (aid : List ℕ) {k : ℕ} {x : Session} → (k, x) ≡ open_of mode date aid → OpenPromise mode date aid k x
 unfolding open_of
 open_promise mode date aid {k} {x} e z object =
-    let c = opened-zero (open_refusal mode date aid) (opened mode date aid) dead x k (eqb (open_refusal mode date aid) 0) refl e z in
+    let c = when_accepted (open_refusal mode date aid) (opened mode date aid) dead e z in
     subst (λ (s : Session). OpenedBy (record { mode = mode; date = date; aid = aid }) s object) (sym c.1) (opening_begins mode date aid object c.0)
 
 -- ---- what a call gives, of the definitions and of the code
@@ -182,30 +178,3 @@ preview_promise s kind yes_no fascn before left {k} e h es =
       result = given_by n refl w;
       extended = extended h (Call.preview kind yes_no fascn before) s (finish h).object tt (ap (λ (x : Session). record { session = x; object = (finish h).object }) (sym es));
     }
-
--- ---- the clauses of each contract together
-
-pub open_both : (mode date : ℕ) (aid : List ℕ) {k : ℕ} {x : Session} → (k, x) ≡ open_of mode date aid → ((k, x) ≡ open_of mode date aid) × OpenPromise mode date aid k x
-open_both mode date aid e = (e, open_promise mode date aid e)
-
-pub command_all : (s : Session) (before left : List ℕ) {k m : ℕ} {x : Session} → ((k, m, x) ≡ command_of s (length before)) × (left ≡ command_buffer s before)
-    → ((k, m, x) ≡ command_of s (length before)) × ((left ≡ command_buffer s before) × CommandPromise s before left k m x)
-command_all s before left e = (e.0, (e.1, command_promise s before left e.0 e.1))
-
-pub answer_all : (s : Session) (object bytes cancelled left : List ℕ) {k : ℕ} {x : Session} → Bytes bytes → ((k, x) ≡ answer_of s object bytes cancelled) × (left ≡ answer_buffer s object bytes)
-    → ((k, x) ≡ answer_of s object bytes cancelled) × ((left ≡ answer_buffer s object bytes) × AnswerPromise s object bytes cancelled left k x)
-answer_all s object bytes cancelled left b e = (e.0, (e.1, answer_promise s object bytes cancelled left b e.0 e.1))
-
-pub verdict_both : (s : Session) (kind yes_no : ℕ) (fascn : List ℕ) {k : ℕ} {x : Session} → (k, x) ≡ verdict_of s kind yes_no fascn → ((k, x) ≡ verdict_of s kind yes_no fascn) × VerdictPromise s kind yes_no fascn k x
-verdict_both s kind yes_no fascn e = (e, verdict_promise s kind yes_no fascn e)
-
-pub field_both : (s : Session) (object : List ℕ) (tag : ℕ) (value : List ℕ) → value ≡ field_of s object tag → (value ≡ field_of s object tag) × FieldPromise s object tag value
-field_both s object tag value e = (e, field_promise s object tag value e)
-
-pub stamp_all : (s : Session) (before left : List ℕ) {k : ℕ} {x : Session} → (k, x) ≡ stamp_answer s (length before) → left ≡ stamp_buffer s before
-    → ((k, x) ≡ stamp_answer s (length before)) × ((left ≡ stamp_buffer s before) × StampPromise s before left k x)
-stamp_all s before left e b = (e, (b, stamp_promise s before left e b))
-
-pub preview_all : (s : Session) (kind yes_no : ℕ) (fascn before left : List ℕ) {k : ℕ} → (k ≡ preview_refusal s kind yes_no fascn (length before)) × ((k, left) ≡ preview_of s kind yes_no fascn before)
-    → ((k, left) ≡ preview_of s kind yes_no fascn before) × ((k ≡ preview_refusal s kind yes_no fascn (length before)) × PreviewPromise s kind yes_no fascn before left k)
-preview_all s kind yes_no fascn before left e = (e.1, (e.0, preview_promise s kind yes_no fascn before left e.1))

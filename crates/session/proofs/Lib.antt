@@ -9,6 +9,8 @@ pub mod BufferLaws
 pub mod RuleLaws
 -- OutcomeLaws: outcomes
 pub mod OutcomeLaws
+-- ChainLaws: what a chain of iterators over parts gives
+pub mod ChainLaws
 -- TablesLaws: the tables, value by value, and as the code walks them
 pub mod TablesLaws
 -- RangesLaws: what a session in range tells of its values

@@ -1,7 +1,7 @@
 -- What a session in range tells of its values, one law for each range that a proof cites.
 -- Assumes nothing.
-use mathlib.Core.Path.{◌≡◌, ap, ◌∙◌}
-use mathlib.Core.Bool.{Bool, true, false, cond, not, ◌&&◌, ◌||◌}
+use mathlib.Core.Path.{◌≡◌}
+use mathlib.Core.Bool.{Bool, true, false, cond, ◌&&◌, ◌||◌}
 use mathlib.Core.List.{List, [], ◌∷◌}
 use Prim.Native.Nat.{ℕ, suc, ◌+◌, ◌≤◌, ◌<◌}
 use native.Mathlib.Omega.{arith}
@@ -10,16 +10,15 @@ use lib.Dec.{eqb, leb}
 use lib.ListN.{length, get_or}
 use Rattle.card.specs.Date.{real_date}
 use Rattle.card.specs.Command.{aid_least, aid_most, good_aid}
-use Rattle.card.specs.Object.{empty, most_fields, rows_of, part_in}
+use Rattle.card.specs.Object.{empty, most_fields, row_tag, rows_of, part_in}
 use Rattle.card.specs.declared.object.Kind.{Kind}
 use Rattle.card.specs.declared.object.Kind.TheVariants.{Signed, Unsigned, Fingers, Picture}
 use Rattle.card.specs.declared.object.Part.{Part}
 use Rattle.common.proofs.ListsLaws.{all_at}
 use Rattle.session.specs.Tables.{since, mode_in_range, base_of, capacity, kind_at, object_size}
-use Rattle.session.specs.Ranges.{opening_in_range, step_in_range, cause_in_range, outstanding_in_range, progress_in_range, outcomes_in_range, part_inside, parts_inside, card_in_range, in_range, out_of_range, ranged_values, values_in_range}
+use Rattle.session.specs.Ranges.{opening_in_range, step_in_range, cause_in_range, outstanding_in_range, progress_in_range, outcomes_in_range, part_inside, parts_inside, card_in_range, in_range, ranged_values, values_in_range}
 use Rattle.session.specs.Operation.{part_for}
 use Rattle.session.specs.declared.state.Session.{Session}
-use Rattle.session.specs.declared.range.Values.{Values}
 use Rattle.common.proofs.TestLaws.{and_parts}
 use Rattle.session.proofs.FigureLaws.{base_inside, base_by}
 
@@ -71,7 +70,7 @@ picked_ends : (base : ℕ) (rs : List _) (ps : List Part) (tag : ℕ) → base �
 unfolding part_in
 picked_ends base [] ps tag h t = omega arith
 picked_ends base (r ∷ rs) [] tag h t = omega arith
-picked_ends base (r ∷ rs) (p ∷ ps) tag h t = by_tag (eqb r.0 tag) (picked_ends base rs ps tag h (λ i l. t (suc i) (omega (arith, l))))
+picked_ends base (r ∷ rs) (p ∷ ps) tag h t = by_tag (eqb (row_tag r) tag) (picked_ends base rs ps tag h (λ i l. t (suc i) (omega (arith, l))))
   where
     by_tag : (k : Bool) → let q = part_in rs ps tag in base + (q.start + q.len) ≤ object_size → let w = cond k p (part_in rs ps tag) in base + (w.start + w.len) ≤ object_size
     by_tag true later = part-ends base p (t 0 (omega arith))
@@ -101,8 +100,3 @@ part-in_range s step tag e = rw (base_by step) (by_step (eqb step 2))
     by_step false = parts_end (base_of 1) (kind_at s.opening.mode 1) s.card.step1 tag (base_inside 1) (parts_in_range s e).0
 
 -- ---- the values by themselves
-
--- what their test says is said of the session that they are of
-pub values_test : (s : Session) {v : Values} {r : Bool} → v ≡ ranged_values s → r ≡ not (values_in_range v) → r ≡ out_of_range s
-unfolding in_range
-values_test s e f = f ∙ ap (λ (x : Values). not (values_in_range x)) e

@@ -1,20 +1,20 @@
 -- The next command: which of crate card's commands it is, and what a command call makes of its answer.
 -- Assumes nothing.
-use mathlib.Core.Path.{◌≡◌, refl, ap}
+use mathlib.Core.Path.{◌≡◌, refl, sym, ap, ◌∙◌}
 use mathlib.Core.Bool.{Bool, true, false, cond}
 use mathlib.Core.List.{List}
 use Prim.Native.Nat.{ℕ, ◌≤◌, ◌<◌}
 use native.Mathlib.Omega.{arith}
-use borrow.Author.Tests.{le-leb, ne_eqb}
+use borrow.Author.Tests.{le-leb, ne_eqb, eqb-false}
 use lib.Dec.{eqb}
 use lib.ListN.{length, take}
 use lib.Seq.{length-take-le}
 use Rattle.common.specs.Lists.{over_front}
-use Rattle.card.specs.Command.{aid_least, aid_most, aid_refused, command_most, too_short, select_bytes, get_data_bytes, with_last, command_written, command_into, select_of, get_data_of, get_response_of, command_number, command_answer}
+use Rattle.card.specs.Command.{aid_least, aid_most, aid_refused, command_most, too_short, select_bytes, get_data_bytes, with_last, command_written, command_into, select_of, get_data_of, get_response_of, command_number}
 use Rattle.card.proofs.CommandLaws.{select_length, get_data_length, get_response_length, length_last, aid_most_lem, select_first, get_data_first, get_response_last}
 use Rattle.card.specs.declared.object.Kind.{Kind}
-use Rattle.card.specs.declared.command.CommandAnswer.{CommandAnswer}
-use Rattle.card.specs.declared.command.CommandAnswer.TheVariants.{Written, WrongAid, ShortBuffer}
+use Rattle.card.specs.declared.command.CommandError.{CommandError}
+use Rattle.card.specs.declared.command.CommandError.TheVariants.{WrongAid, ShortBuffer}
 use Rattle.session.specs.Tables.{kind_at, NextCommand, command_bytes}
 use Rattle.session.specs.Condition.{nothing_to_send}
 use Rattle.session.specs.Ranges.{in_range, out_of_range}
@@ -89,19 +89,13 @@ get_response_again_next s out e = rw (e, get_response_last)
 
 -- ---- the call
 
--- the number stands in the answer
-number_is : (w : CommandAnswer) → command_number w ≡ (command_answer w).0
-number_is (Written n) = refl
-number_is WrongAid = refl
-number_is ShortBuffer = refl
-
--- what the call makes of the answer, by whether the buffer is too short
-by_room : (b : Bool) (s x : Session) (bytes out m : List ℕ) (w : CommandAnswer) → (command_answer w, m) ≡ command_written (cond b 6 0) bytes out
-    → (◌≡◌ {A = ℕ × ℕ × Session} (cond (eqb (command_number w) 0) (0, (command_answer w).1, x) (command_number w, 0, s)) (cond (eqb (cond b 6 0) 0) (0, length bytes, x) (cond b 6 0, 0, s)))
+-- what the call makes of the number and the count, by whether the buffer is too short
+by_room : (b : Bool) (s x : Session) (bytes out m : List ℕ) {n j : ℕ} → ((n, j), m) ≡ command_written (cond b 6 0) bytes out
+    → (◌≡◌ {A = ℕ × ℕ × Session} (cond (eqb n 0) (0, j, x) (n, 0, s)) (cond (eqb (cond b 6 0) 0) (0, length bytes, x) (cond b 6 0, 0, s)))
     × (m ≡ cond (eqb (cond b 6 0) 0) (over_front bytes out) out)
 unfolding command_written
-by_room true s x bytes out m w e = (rw (number_is w, ap (λ (p : (ℕ × ℕ) × List ℕ). p.0) e), ap (λ (p : (ℕ × ℕ) × List ℕ). p.1) e)
-by_room false s x bytes out m w e = (rw (number_is w, ap (λ (p : (ℕ × ℕ) × List ℕ). p.0) e), ap (λ (p : (ℕ × ℕ) × List ℕ). p.1) e)
+by_room true s x bytes out m e = (rw (ap (λ (p : (ℕ × ℕ) × List ℕ). p.0.0) e), ap (λ (p : (ℕ × ℕ) × List ℕ). p.1) e)
+by_room false s x bytes out m e = (rw (ap (λ (p : (ℕ × ℕ) × List ℕ). p.0.0) e, ap (λ (p : (ℕ × ℕ) × List ℕ). p.0.1) e), ap (λ (p : (ℕ × ℕ) × List ℕ). p.1) e)
 
 -- the session is out of range
 pub command_out_of_range : (s : Session) (out : List ℕ) → out_of_range s ≡ true → ((4, 0, s) ≡ command_of s (length out)) × (out ≡ command_buffer s out)
@@ -115,11 +109,37 @@ unfolding command_of command_buffer command_refusal
 command_none s out a b = (rw (a, b), rw (a, b))
 
 -- the command was written, or the buffer is too short
-pub command_made : (s : Session) (out m : List ℕ) (w : CommandAnswer) {r : ℕ × ℕ × Session} → out_of_range s ≡ false
+command_made : (s : Session) (out m : List ℕ) {n j : ℕ} → out_of_range s ≡ false
     → nothing_to_send s.progress.step s.progress.cause s.progress.outstanding ≡ false
-    → (command_answer w, m) ≡ command_into (command_in s) out
-    → r ≡ cond (eqb (command_number w) 0) (0, (command_answer w).1, with_session_progress s (progress_sending s.progress)) (command_number w, 0, s)
-    → (r ≡ command_of s (length out)) × (m ≡ command_buffer s out)
+    → ((n, j), m) ≡ command_into (command_in s) out
+    → (◌≡◌ {A = ℕ × ℕ × Session} (cond (eqb n 0) (0, j, with_session_progress s (progress_sending s.progress)) (n, 0, s)) (command_of s (length out))) × (m ≡ command_buffer s out)
 unfolding command_of command_buffer command_refusal
-command_made s out m w a b e f =
-    rw (a, b, f) (by_room (too_short out (command_in s)) s (with_session_progress s (progress_sending s.progress)) (command_in s) out m w e)
+command_made s out m a b e =
+    rw (a, b) (by_room (too_short out (command_in s)) s (with_session_progress s (progress_sending s.progress)) (command_in s) out m e)
+
+pub command_sent : (s : Session) (out m : List ℕ) {j : ℕ} → out_of_range s ≡ false
+    → nothing_to_send s.progress.step s.progress.cause s.progress.outstanding ≡ false
+    → ((0, j), m) ≡ command_into (command_in s) out
+    → ((0, j, with_session_progress s (progress_sending s.progress)) ≡ command_of s (length out)) × (m ≡ command_buffer s out)
+command_sent s out m a b e = command_made s out m a b e
+
+pub command_not_sent : (s : Session) (out m : List ℕ) (d : CommandError) → out_of_range s ≡ false
+    → nothing_to_send s.progress.step s.progress.cause s.progress.outstanding ≡ false
+    → ((command_number d, 0), m) ≡ command_into (command_in s) out
+    → ((command_number d, 0, s) ≡ command_of s (length out)) × (m ≡ command_buffer s out)
+command_not_sent s out m WrongAid a b e = command_made s out m a b e
+command_not_sent s out m ShortBuffer a b e = command_made s out m a b e
+
+-- what is said of the number and the count settles the session
+by_number : (b : Bool) (k m : ℕ) (x s : Session) {n j : ℕ} → eqb k 0 ≡ b → n ≡ (cond {A = ℕ × ℕ × Session} b (0, m, x) (k, 0, s)).0 → j ≡ (cond {A = ℕ × ℕ × Session} b (0, m, x) (k, 0, s)).1
+    → (n ≡ 0 → ◌≡◌ {A = ℕ × ℕ × Session} (n, j, x) (cond b (0, m, x) (k, 0, s))) × ((n ≡ 0 → ⊥) → ◌≡◌ {A = ℕ × ℕ × Session} (n, j, s) (cond b (0, m, x) (k, 0, s)))
+by_number true k m x s p e f = (λ z. rw (e, f), λ g. absurd (g e))
+by_number false k m x s p e f = (λ z. absurd (eqb-false k 0 p (sym e ∙ z)), λ g. rw (e, f))
+
+pub command_accepted : (s : Session) (room : ℕ) {j : ℕ} → 0 ≡ (command_of s room).0 → j ≡ (command_of s room).1 → (0, j, with_session_progress s (progress_sending s.progress)) ≡ command_of s room
+unfolding command_of
+command_accepted s room e f = (by_number (eqb (command_refusal s room) 0) (command_refusal s room) (length (command_in s)) (with_session_progress s (progress_sending s.progress)) s refl e f).0 refl
+
+pub command_declined : (s : Session) (room : ℕ) {k j : ℕ} → (k ≡ 0 → ⊥) → k ≡ (command_of s room).0 → j ≡ (command_of s room).1 → (k, j, s) ≡ command_of s room
+unfolding command_of
+command_declined s room g e f = (by_number (eqb (command_refusal s room) 0) (command_refusal s room) (length (command_in s)) (with_session_progress s (progress_sending s.progress)) s refl e f).1 g

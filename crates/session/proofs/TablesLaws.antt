@@ -1,13 +1,15 @@
--- The tables of documents 01 and 02 value by value; the tests that a mode needs a check; the lowest failed check, from the last check back to the first; and the tags that a field call may ask for.
+-- The tables of documents 01 and 02 value by value; the tags that a field call may ask for; and the lowest failed check.
 -- Assumes nothing.
 use mathlib.Core.Path.{◌≡◌, refl, ◌∙◌}
-use mathlib.Core.Bool.{Bool, true, false, cond, ◌||◌, or-false, or_assoc}
+use mathlib.Core.Bool.{Bool, true, false, cond, not, ◌||◌}
 use mathlib.Core.List.{List, [], ◌∷◌, ◌++◌, map}
-use Prim.Native.Nat.{ℕ, ◌+◌, ◌<◌}
-use native.Mathlib.Numerals.{add-one}
+use Prim.Native.Nat.{ℕ, suc, ◌+◌}
+use native.Mathlib.Omega.{arith}
+use Rattle.std.proofs.lemmas.Bool.Decides.{nat_tests}
 use lib.Dec.{eqb}
-use lib.ListN.{length, get_or, take, drop, replicate}
-use lib.Seq.{drop-cons}
+use lib.ListN.{length, take, drop, replicate}
+use Rattle.std.specs.Prelude.{Some, None, ltb}
+use Rattle.std.specs.List.{position_or_len}
 use Rattle.common.specs.Lists.{list_of, all}
 use Rattle.card.specs.Object.{row_tag, end_tag, rows_of}
 use Rattle.card.specs.declared.object.Kind.TheVariants.{Signed, Unsigned, Fingers, Picture}
@@ -79,24 +81,34 @@ pub picture_asked : map row_tag (rows_of Picture) ≡ step2_tags ++ (end_tag ∷
 unfolding rows_of
 picture_asked = refl
 
--- five and six tests, one of which passes, as code and definition group them
-pub five : (a b c d e : Bool) → ((((a || b) || c) || d) || e) ≡ (a || (b || (c || (d || (e || false)))))
-five a b c d e = simp (or_assoc, or-false)
+-- ---- the lowest failed check
 
-pub six : (a b c d e f : Bool) → (((((a || b) || c) || d) || e) || f) ≡ (a || (b || (c || (d || (e || (f || false))))))
-six a b c d e f = simp (or_assoc, or-false)
+-- the check failed, or on another card
+abbrev pub fails : ℕ → Bool
+fails v = eqb v failed || eqb v other_card
 
--- the check whose outcome stands at place j comes before those after it
-lowest_at : (o : List ℕ) (j : ℕ) → j < length o
-    → lowest_from (j + 1) (drop j o) ≡ cond (eqb (get_or o j 0) failed || eqb (get_or o j 0) other_card) (j + 1) (lowest_from (j + 1 + 1) (drop (j + 1) o))
+-- it is the first that fails, of those that are looked at
+pub lowest_first : (c : ℕ) (o : List ℕ) → lowest_from c o ≡ cond (ltb (position_or_len fails o) (length o)) (position_or_len fails o + c) 0
 unfolding lowest_from
-lowest_at o j h = rw (drop-cons o j 0 h, add-one (j + 1), add-one j)
+lowest_first c [] = refl
+lowest_first c (v ∷ o) = go (fails v) (lowest_first (suc c) o)
+  where
+    go : (b : Bool) → lowest_from (suc c) o ≡ cond (ltb (position_or_len fails o) (length o)) (position_or_len fails o + suc c) 0
+        → cond b c (lowest_from (suc c) o) ≡ cond (ltb (cond (not b) (1 + position_or_len fails o) 0) (suc (length o))) (cond (not b) (1 + position_or_len fails o) 0 + c) 0
+    go true e = grind (arith, nat_tests)
+    go false e = e ∙ grind (arith, nat_tests)
 
--- it failed: it is the lowest
-pub lowest_here : (o : List ℕ) (j i : ℕ) → i ≡ j + 1 → j < length o → (eqb (get_or o j 0) failed || eqb (get_or o j 0) other_card) ≡ true → i ≡ lowest_from (j + 1) (drop j o)
-lowest_here o j i e h t = rw (lowest_at o j h, t) e
+-- what a search for it gives: its place, the first being 0, or nothing
+pub lowest_found : (o : List ℕ) (i : ℕ) → cond (ltb (position_or_len fails o) (length o)) (Some (position_or_len fails o)) None ≡ Some i → i + 1 ≡ lowest_from 1 o
+lowest_found o i e = rw (lowest_first 1 o) (go (position_or_len fails o) (ltb (position_or_len fails o) (length o)) e)
+  where
+    go : (n : ℕ) (b : Bool) → cond b (Some n) None ≡ Some i → i + 1 ≡ cond b (n + 1) 0
+    go n true e = cc
+    go n false e = cc
 
--- it did not fail: the lowest is that of those after it
-pub lowest_later : (o : List ℕ) (j i : ℕ) {lowest : ℕ} → i ≡ j + 1 → j < length o → (eqb (get_or o j 0) failed || eqb (get_or o j 0) other_card) ≡ false
-    → lowest ≡ lowest_from (i + 1) (drop i o) → lowest ≡ lowest_from (j + 1) (drop j o)
-lowest_later o j i e h t p = p ∙ rw (lowest_at o j h, t, e)
+pub lowest_none : (o : List ℕ) → cond (ltb (position_or_len fails o) (length o)) (Some (position_or_len fails o)) None ≡ None → 0 ≡ lowest_from 1 o
+lowest_none o e = rw (lowest_first 1 o) (go (position_or_len fails o) (ltb (position_or_len fails o) (length o)) e)
+  where
+    go : (n : ℕ) (b : Bool) → cond b (Some n) None ≡ None → 0 ≡ cond b (n + 1) 0
+    go n true e = cc
+    go n false e = refl

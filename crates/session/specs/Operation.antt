@@ -1,8 +1,8 @@
 -- What each call on a session gives, and what it leaves in the buffers that it is lent: the contracts cite these, for every session and every buffer.
 -- Assumes nothing.
-use Rattle.std.specs.Prelude.{true, false, cond, ◌||◌, List, [], ◌∷◌, ℕ, ◌+◌, eqb, length, get_or, take, drop, replicate}
+use Rattle.std.specs.Prelude.{◌≡◌, refl, true, false, cond, ◌||◌, List, [], ◌∷◌, ℕ, ◌+◌, eqb, length, get_or, take, drop, replicate, Option, Some, None}
 use Rattle.common.specs.Lists.{over_front, over_places}
-use Rattle.common.specs.Refusal.{refusal_of}
+use Rattle.common.specs.Refusal.{refusal_of, number_in, value_in}
 use Rattle.card.specs.Object.{biometric_tag, empty, most_fields, rows_of, object_of, part_in, bytes_at, field_part}
 use Rattle.card.specs.Fascn.{fascn_bytes}
 use Rattle.card.specs.Command.{aid_most, status_of}
@@ -17,36 +17,73 @@ use Rattle.session.specs.declared.state.Card.{Card}
 use Rattle.session.specs.declared.state.Session.{Session}
 use Rattle.session.specs.declared.state.Next.{Next}
 use Rattle.session.specs.declared.state.Next.TheVariants.{Initial, GetResponse, InitialAgain, GetResponseAgain}
-use Rattle.session.specs.declared.state.Reply.{Reply}
-use Rattle.session.specs.declared.state.Reply.TheVariants as replies
+use Rattle.session.specs.declared.state.Refusal.{Refusal}
 use Rattle.session.specs.declared.state.Answered.{Answered}
 use Rattle.session.specs.declared.state.Commanded.{Commanded}
+use Rattle.session.specs.declared.state.Refusal.TheVariants as refusals
+use Rattle.session.specs.declared.state.Cause.{Cause}
+use Rattle.session.specs.declared.state.Cause.TheVariants as causes
 
--- ---- the answers of the code: document 01's number of each case; no two have one number (`reply_is`, proofs/ReplyLaws.antt)
+-- ---- the answers of the code: document 01's number of each refusal; no two have one number (`refusal_is`, proofs/ReplyLaws.antt)
 
-abbrev pub reply_number : Reply → ℕ
-reply_number replies.Accepted = 0
-reply_number replies.WrongMode = 1
-reply_number replies.UnrealDate = 2
-reply_number replies.WrongAid = 3
-reply_number replies.OutOfRange = 4
-reply_number replies.OutOfTurn = 5
-reply_number replies.ShortBuffer = 6
-reply_number replies.WrongObjectBuffer = 7
-reply_number replies.WrongAnswerLength = 8
-reply_number replies.NotAllRead = 9
-reply_number replies.UnknownKind = 10
-reply_number replies.UnknownVerdict = 11
-reply_number replies.WrongFascn = 12
-reply_number replies.NotNeeded = 13
-reply_number replies.AlreadyGiven = 14
+abbrev pub refusal_number : Refusal → ℕ
+refusal_number refusals.WrongMode = 1
+refusal_number refusals.UnrealDate = 2
+refusal_number refusals.WrongAid = 3
+refusal_number refusals.OutOfRange = 4
+refusal_number refusals.OutOfTurn = 5
+refusal_number refusals.ShortBuffer = 6
+refusal_number refusals.WrongObjectBuffer = 7
+refusal_number refusals.WrongAnswerLength = 8
+refusal_number refusals.NotAllRead = 9
+refusal_number refusals.UnknownKind = 10
+refusal_number refusals.UnknownVerdict = 11
+refusal_number refusals.WrongFascn = 12
+refusal_number refusals.NotNeeded = 13
+refusal_number refusals.AlreadyGiven = 14
 
--- The number and the session handed back; of a command call also the count of bytes.
+-- 0 is the number of an accepted call alone.
+pub refusal_never_zero : (e : Refusal) → eqb (refusal_number e) 0 ≡ false
+refusal_never_zero refusals.WrongMode = refl
+refusal_never_zero refusals.UnrealDate = refl
+refusal_never_zero refusals.WrongAid = refl
+refusal_never_zero refusals.OutOfRange = refl
+refusal_never_zero refusals.OutOfTurn = refl
+refusal_never_zero refusals.ShortBuffer = refl
+refusal_never_zero refusals.WrongObjectBuffer = refl
+refusal_never_zero refusals.WrongAnswerLength = refl
+refusal_never_zero refusals.NotAllRead = refl
+refusal_never_zero refusals.UnknownKind = refl
+refusal_never_zero refusals.UnknownVerdict = refl
+refusal_never_zero refusals.WrongFascn = refl
+refusal_never_zero refusals.NotNeeded = refl
+refusal_never_zero refusals.AlreadyGiven = refl
+
+-- The causes that end a reading.
+abbrev pub cause_number : Cause → ℕ
+cause_number causes.Status = 16
+cause_number causes.Empty = 17
+cause_number causes.Full = 18
+cause_number causes.Template = 19
+cause_number causes.Object = 20
+cause_number causes.Fascn = 21
+cause_number causes.Date = 22
+
+pub cause_never_zero : (c : Cause) → eqb (cause_number c) 0 ≡ false
+cause_never_zero causes.Status = refl
+cause_never_zero causes.Empty = refl
+cause_never_zero causes.Full = refl
+cause_never_zero causes.Template = refl
+cause_never_zero causes.Object = refl
+cause_never_zero causes.Fascn = refl
+cause_never_zero causes.Date = refl
+
+-- The number that a call gives, 0 where it is accepted, and the session that it leaves; of a command call also the count of bytes, 0 where it is refused.
 abbrev pub given : Answered → ℕ × Session
-given r = (reply_number r.reply, r.session)
+given r = (number_in refusal_number r.reply, r.session)
 
 abbrev pub command_given : Commanded → ℕ × ℕ × Session
-command_given r = (reply_number r.reply, r.count, r.session)
+command_given r = (number_in refusal_number r.reply, value_in 0 r.reply, r.session)
 
 abbrev pub with_session_progress : Session → SessionProgress → Session
 with_session_progress s p = record { opening = s.opening; progress = p; outcomes = s.outcomes; card = s.card }
@@ -175,6 +212,12 @@ judged_session s joined cancelled =
     let k = joined_cause s.opening.mode s.progress.step joined in
     cond (eqb k 0) (good_end_session s joined cancelled) (with_session_progress s (progress_stopped s.progress (length joined) k 0 0))
 
+-- The good end of a step with its number 0, or the cause of its joined data and the session as it was.
+unfoldable pub good_end_of : Session → List ℕ → List ℕ → ℕ × Session
+good_end_of s joined cancelled =
+    let k = joined_cause s.opening.mode s.progress.step joined in
+    cond (eqb k 0) (0, good_end_session s joined cancelled) (k, s)
+
 -- The cause of rules 1 to 3.
 abbrev pub cause_in : Session → Status → ℕ → ℕ
 cause_in s status n =
@@ -186,6 +229,17 @@ place_of p = base_of p.step + p.filled
 
 unfoldable pub joined_in : SessionProgress → List ℕ → ℕ → List ℕ
 joined_in p object n = take (p.filled + n) (drop (base_of p.step) object)
+
+-- The command that is next after an answer whose data is appended; none where the step's data is then complete. Any other status word gave cause 16.
+abbrev pub next_after : Status → Next → Option Next
+next_after Done next = None
+next_after (More second) next = Some (GetResponse second)
+next_after (Again last) next = Some (sent_again next last)
+next_after Other next = None
+
+-- By rules 1 to 3: 0 and the command that is next, or the cause.
+unfoldable pub rules_of : Session → Status → ℕ → ℕ × Option Next
+rules_of s status n = cond (eqb (cause_in s status n) 0) (0, next_after status s.progress.next) (cause_in s status n, None)
 
 -- By the status of an answer whose data, n bytes, is appended.
 abbrev pub appended_session : Status → Session → List ℕ → ℕ → List ℕ → Session

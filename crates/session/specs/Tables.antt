@@ -13,6 +13,10 @@ use Rattle.card.specs.declared.object.Kind.{Kind}
 use Rattle.card.specs.declared.object.Kind.TheVariants.{Signed, Unsigned, Fingers, Picture}
 use Rattle.card.specs.declared.command.Status.{Status}
 use Rattle.card.specs.declared.command.Status.TheVariants.{Done, More, Again, Other}
+use Rattle.session.specs.declared.figures.Outcome.{Outcome}
+use Rattle.session.specs.declared.figures.Outcome.TheVariants as outcomes
+use Rattle.session.specs.declared.figures.Standing.{Standing}
+use Rattle.session.specs.declared.figures.Standing.TheVariants as standings
 
 -- ---- the figures that request 7 of document 02 changed
 
@@ -86,6 +90,14 @@ failed = 3
 abbrev pub other_card : ℕ
 other_card = 4
 
+-- The number of an outcome of the code.
+abbrev pub outcome_number : Outcome → ℕ
+outcome_number outcomes.Unneeded = 0
+outcome_number outcomes.Awaited = 1
+outcome_number outcomes.Passed = 2
+outcome_number outcomes.Failed = 3
+outcome_number outcomes.OtherCard = 4
+
 -- The outcome of a check, and the outcomes with that of a check set.
 abbrev pub outcome_of : List ℕ → ℕ → ℕ
 outcome_of o check = get_or o (check - 1) 0
@@ -153,6 +165,12 @@ stands_granted = 1
 
 abbrev pub stands_rejected : ℕ
 stands_rejected = 2
+
+-- The number of a standing of the code.
+abbrev pub standing_number : Standing → ℕ
+standing_number standings.Open = 0
+standing_number standings.Granted = 1
+standing_number standings.Rejected = 2
 
 -- "Standing is rejected if cause is not 0, granted if step is 3 and each needed outcome is 2, else open."
 unfoldable pub standing_of : ℕ → ℕ → ℕ → List ℕ → ℕ

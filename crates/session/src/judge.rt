@@ -1,41 +1,38 @@
-// The joined data of a step, judged once 90 00 has come: its cause, or the next step.
+// The joined data of a step, judged once 90 00 has come: its cause, or the next step. joined and cancelled are what an
+// answer lends: no struct keeps them.
 ghost use Rattle.std.specs.Prelude.{◌≡◌, ◌+◌};
+ghost use Rattle.common.specs.Refusal.{answer_in};
 ghost use Rattle.card.specs.Object.{object_of, field_value};
-ghost use Rattle.card.specs.Date.{date_answer};
-ghost use Rattle.session.specs.Tables.{expiry_outcome, list_outcome, kind_at, with_outcome};
-ghost use Rattle.session.specs.Operation.{step2_end_session, judged_session};
+ghost use Rattle.session.specs.Tables.{outcome_number, expiry_outcome, list_outcome, with_outcome};
+ghost use Rattle.session.specs.Operation.{cause_number, good_end_of, judged_session};
 
-use crate::figures::{CHECKS, FAILED, FASCN_CAUSE, PASSED};
-use crate::state::{Card, Session};
-use crate::{arrays, progress, tables};
-use card::date::{Date, ILL_FORMED_DATE};
+use crate::figures::{CHECKS, Outcome};
+use crate::state::{Card, Cause, Session};
+use crate::{arrays, field, progress, tables};
 use card::fascn::Key;
-use card::object::{BIOMETRIC_TAG, EXPIRY_TAG, FASCN_TAG, FIELDS, Kind, MALFORMED_OBJECT, Part};
+use card::object::{BIOMETRIC_TAG, EXPIRY_TAG, FASCN_TAG, FIELDS, Kind, Part};
 use card::{date, fascn, object, template};
+use common::refusal::Numbered;
 
-// The number that a date spells, 0 where it is none.
-fn date_number(d: Date) -> u32
-    ensures { result ≡ (date_answer d).1 }
+#[tactic(auto, unfolding(crate::specs::Tables::expiry_outcome))]
+fn expiry_outcome(date: u32, expiry: u32) -> Outcome
+    ensures { outcome_number result ≡ expiry_outcome date expiry }
 {
-    match d {
-        Date::Real(n) => n,
-        Date::Unreal => 0,
+    if date <= expiry {
+        Outcome::Passed
+    } else {
+        Outcome::Failed
     }
 }
 
-fn expiry_outcome(date: u32, expiry: u32) -> u8
-    ensures { result ≡ expiry_outcome date expiry }
-{
-    if date <= expiry { PASSED } else { FAILED }
-}
-
-fn list_outcome(key: Key, cancelled: &[u64]) -> u8
-    ensures { result ≡ list_outcome key.0 cancelled.now }
+#[tactic(auto, unfolding(crate::specs::Tables::list_outcome))]
+fn list_outcome(key: Key, cancelled: &[u64]) -> Outcome
+    ensures { outcome_number result ≡ list_outcome key.0 cancelled.now }
 {
     if key.listed(cancelled) {
-        FAILED
+        Outcome::Failed
     } else {
-        PASSED
+        Outcome::Passed
     }
 }
 
@@ -44,10 +41,7 @@ fn field_value<'a>(kind: Kind, parts: [Part; FIELDS], s: &'a [u8], tag: u8) -> &
     requires { (object_of kind s.now).1 ≡ parts }
     ensures { result.now ≡ field_value kind tag s.now }
 {
-    let p = object::part_of(kind, parts, tag);
-    let start = p.start as usize;
-    let end = start + p.len as usize;
-    &s[start..end]
+    field::cut(s, object::part_of(kind, parts, tag))
 }
 
 // Checks 3 and 4 are set, by expiry and key.
@@ -67,92 +61,84 @@ fn judged_outcomes(
 }
 
 impl Session {
-    // Step 0's data is a template or not.
-    fn judge_template(self, joined: &[u8], cancelled: &[u64]) -> Session
+    // Step 0's data is a template: step 1 begins. `cancelled` is there for the clause, which all three ends share.
+    fn step0_end(self, joined: &[u8], cancelled: &[u64]) -> Result<Session, Cause>
         requires { self.progress.step ≡ 0 }
-        ensures { result ≡ judged_session self joined.now cancelled.now }
+        ensures { answer_in cause_number self result ≡ good_end_of self joined.now cancelled.now }
     {
-        let answer = template::template(joined);
-        let cause = answer.number();
-        if cause == 0 {
-            let mut s = self;
-            let progress = progress::at_step(1);
-            s.progress = progress;
-            return s;
-        }
-        self.stopped(joined.len(), cause, 0, 0)
+        template::template(joined)?;
+        Ok(Session {
+            progress: progress::at_step(1),
+            ..self
+        })
     }
 
-    // Step 1's object is good: its FASC-N and its date are judged, and checks 3 and 4 set.
-    fn judge_step1(self, parts: [Part; FIELDS], joined: &[u8], cancelled: &[u64]) -> Session
-        requires { (self.progress.step ≡ 1) × (object_of (kind_at self.opening.mode 1) joined.now ≡ (0, parts)) }
-        ensures { result ≡ judged_session self joined.now cancelled.now }
+    // Step 1's object is good, and so are its FASC-N and its date: checks 3 and 4 are set.
+    fn step1_end(self, joined: &[u8], cancelled: &[u64]) -> Result<Session, Cause>
+        requires { self.progress.step ≡ 1 }
+        ensures { answer_in cause_number self result ≡ good_end_of self joined.now cancelled.now }
     {
         let opening = self.opening;
         let kind = tables::kind_at(opening.mode, 1);
-        let bytes = field_value(kind, parts, joined, FASCN_TAG);
-        let unpacked = fascn::unpack(bytes);
-        let well = unpacked.answer;
-        if well.number() != 0 {
-            return self.stopped(joined.len(), FASCN_CAUSE, 0, 0);
-        }
-        let date = date::read(field_value(kind, parts, joined, EXPIRY_TAG));
-        if date.number() != 0 {
-            return self.stopped(joined.len(), ILL_FORMED_DATE, 0, 0);
-        }
-        let expiry = date_number(date);
-        let digits = unpacked.digits;
+        let step1 = object::parse(kind, joined)?;
+        let bytes = field_value(kind, step1, joined, FASCN_TAG);
+        let digits = fascn::unpack(bytes)?;
+        let expiry = date::read(field_value(kind, step1, joined, EXPIRY_TAG))?;
         let key = fascn::key_of(digits);
-        let before = self.outcomes;
-        let outcomes = judged_outcomes(before, opening.date, expiry, key, cancelled);
-        let fascn = arrays::array_fascn(bytes);
+        let outcomes = judged_outcomes(self.outcomes, opening.date, expiry, key, cancelled);
         let progress = progress::at_step(tables::step_after(opening.mode, 1));
-        let step2 = self.card.step2;
+        let fascn = arrays::array(bytes);
         let card = Card {
             fascn,
             expiry,
-            step1: parts,
-            step2,
+            step1,
+            ..self.card
         };
-        Session {
+        Ok(Session {
             opening,
             progress,
             outcomes,
             card,
-        }
+        })
     }
 
-    // Step 2's object is good, and its field BC lies there.
-    fn judge_step2(self, part: Part) -> Session
-        ensures { result ≡ step2_end_session self part }
+    // Step 2's object is good: where its field BC lies is kept. `cancelled` is there for the clause, as in step0_end.
+    fn step2_end(self, joined: &[u8], cancelled: &[u64]) -> Result<Session, Cause>
+        requires { (self.progress.step ≡ 0 → ⊥) × (self.progress.step ≡ 1 → ⊥) }
+        ensures { answer_in cause_number self result ≡ good_end_of self joined.now cancelled.now }
     {
-        let progress = progress::at_step(3);
-        let mut card = self.card;
-        card.step2 = part;
-        let mut s = self;
-        s.progress = progress;
-        s.card = card;
-        s
+        let kind = tables::kind_at(self.opening.mode, self.progress.step);
+        let parts = object::parse(kind, joined)?;
+        let card = Card {
+            step2: object::part_of(kind, parts, BIOMETRIC_TAG),
+            ..self.card
+        };
+        Ok(Session {
+            progress: progress::at_step(3),
+            card,
+            ..self
+        })
+    }
+
+    // The good end of the step, or the cause of its joined data. A match: the three ends share no step that a closure
+    // could be given.
+    fn good_end(self, joined: &[u8], cancelled: &[u64]) -> Result<Session, Cause>
+        ensures { answer_in cause_number self result ≡ good_end_of self joined.now cancelled.now }
+    {
+        match self.progress.step {
+            0 => self.step0_end(joined, cancelled),
+            1 => self.step1_end(joined, cancelled),
+            _ => self.step2_end(joined, cancelled),
+        }
     }
 
     // The step's joined data is judged.
     pub(crate) fn judge(self, joined: &[u8], cancelled: &[u64]) -> Session
         ensures { result ≡ judged_session self joined.now cancelled.now }
     {
-        let step = self.progress.step;
-        if step == 0 {
-            return self.judge_template(joined, cancelled);
+        match self.good_end(joined, cancelled) {
+            Ok(session) => session,
+            Err(cause) => self.stopped(joined.len(), cause.number(), 0, 0),
         }
-        let kind = tables::kind_at(self.opening.mode, step);
-        let object = object::parse(kind, joined);
-        let answer = object.answer;
-        if answer.number() != 0 {
-            return self.stopped(joined.len(), MALFORMED_OBJECT, 0, 0);
-        }
-        let parts = object.parts;
-        if step == 1 {
-            return self.judge_step1(parts, joined, cancelled);
-        }
-        self.judge_step2(object::part_of(kind, parts, BIOMETRIC_TAG))
     }
 }

@@ -1,5 +1,5 @@
-// The session with a card (document 01): open, command, answer, verdict, field and stamp, and the preview (document 02, request 6). It knows the card's language only
-// through what crate `card` states.
+// The session with a card (document 01): open, command, answer, verdict, field and stamp, and the preview (document 02,
+// request 6). It knows the card's language only through what crate `card` states.
 #![tactic(auto)]
 
 mod answer;

@@ -19,49 +19,49 @@ pub(crate) fn at_step(step: u8) -> SessionProgress
     }
 }
 
-// The same command, to be sent again with another last byte. The last two cases do not arise: a 6C to a command that was sent again is cause 16.
+// The same command, to be sent again with another last byte. InitialAgain and GetResponseAgain do not arise as `next`:
+// a 6C to a command that was sent again is cause 16.
 pub(crate) fn sent_again(next: Next, last: u8) -> Next
     ensures { result ≡ sent_again next last }
 {
     match next {
-        Next::Initial => Next::InitialAgain(last),
-        Next::GetResponse(_) => Next::GetResponseAgain(last),
-        Next::InitialAgain(_) => Next::InitialAgain(last),
-        Next::GetResponseAgain(_) => Next::GetResponseAgain(last),
+        Next::Initial | Next::InitialAgain(_) => Next::InitialAgain(last),
+        Next::GetResponse(_) | Next::GetResponseAgain(_) => Next::GetResponseAgain(last),
     }
 }
 
 impl Session {
+    // sw1 and sw2 are two bytes, as the stamp and an image have them.
     // A cause ends the reading, with so many bytes of the step's data in the object buffer.
-    pub(crate) fn stopped(self, filled: usize, cause: u8, sw1: u8, sw2: u8) -> Session
+    pub(crate) fn stopped(self, filled: usize, cause: u8, sw1: u8, sw2: u8) -> Self
         ensures { result ≡ with_session_progress self (progress_stopped self.progress filled cause sw1 sw2) }
     {
-        let mut s = self;
-        s.progress.filled = filled;
-        s.progress.outstanding = false;
-        s.progress.cause = cause;
-        s.progress.sw1 = sw1;
-        s.progress.sw2 = sw2;
-        s
+        Self {
+            progress: SessionProgress {
+                filled,
+                outstanding: false,
+                cause,
+                sw1,
+                sw2,
+                ..self.progress
+            },
+            ..self
+        }
     }
 
     // The step goes on, n bytes being appended, with this command next.
-    pub(crate) fn continued(self, n: usize, next: Next) -> Session
+    pub(crate) fn continued(self, n: usize, next: Next) -> Self
         requires { self.progress.filled + n < 2 ^ 64 }
         ensures { result ≡ with_session_progress self (progress_continued self.progress n next) }
     {
-        let p = self.progress;
-        let progress = SessionProgress {
-            step: p.step,
-            filled: p.filled + n,
-            outstanding: false,
-            next,
-            cause: 0,
-            sw1: 0,
-            sw2: 0,
-        };
-        let mut s = self;
-        s.progress = progress;
-        s
+        let filled = self.progress.filled + n;
+        Self {
+            progress: SessionProgress {
+                filled,
+                next,
+                ..at_step(self.progress.step)
+            },
+            ..self
+        }
     }
 }

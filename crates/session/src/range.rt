@@ -2,9 +2,9 @@
 ghost use Rattle.std.specs.Prelude.{◌≡◌, not, ◌||◌, ◌≤◌, eqb};
 ghost use Rattle.card.specs.Date.{real_date};
 ghost use Rattle.session.specs.Tables.{object_size};
-ghost use Rattle.session.specs.Ranges.{outcomes_in_range, part_inside, parts_inside, values_in_range, ranged_values};
+ghost use Rattle.session.specs.Ranges.{outcomes_in_range, part_inside, parts_inside, values_in_range, ranged_values, out_of_range};
 
-use crate::figures::{CHECKS, OBJECT, OTHER_CARD};
+use crate::figures::{CHECKS, OBJECT, Outcome};
 use crate::state::Session;
 use crate::tables;
 use card::command::good_aid;
@@ -14,11 +14,7 @@ use card::object::{FIELDS, Part};
 fn outcomes_in_range(o: [u8; CHECKS]) -> bool
     ensures { result ≡ outcomes_in_range o }
 {
-    let mut ok = true;
-    for i in 0..CHECKS {
-        ok = ok & (o[i] <= OTHER_CARD);
-    }
-    ok
+    o.iter().all(|outcome| *outcome <= Outcome::OtherCard as u8)
 }
 
 // Whether a part of a step's data, which begins at `base`, lies inside the object buffer.
@@ -33,25 +29,18 @@ fn parts_inside(base: usize, parts: [Part; FIELDS]) -> bool
     requires { base ≤ object_size }
     ensures { result ≡ parts_inside base parts }
 {
-    let mut ok = true;
-    for i in 0..FIELDS {
-        ok = ok & part_inside(base, parts[i]);
-    }
-    ok
+    parts.iter().all(|p| part_inside(base, *p))
 }
 
 fn expiry_in_range(n: u32) -> bool
     ensures { result ≡ eqb n 0 || real_date n }
 {
-    if n == 0 {
-        return true;
-    }
-    date::real(n)
+    (n == 0) || date::real(n)
 }
 
-// The values that have ranges; `inside` says that the field parts are inside. They are few, so that a call hands these on, and not the whole session, for
-// its test: a session that is handed to a function is copied.
-#[derive(Clone, Copy)]
+// The values that have ranges; `inside` says that the field parts are inside. A call tests these few values: the
+// definition `ranged_values` speaks of them, and the law of the ranges stands on it.
+#[derive(Clone, Copy, Debug, PartialEq, Eq)]
 pub(crate) struct Values {
     pub date: u32,
     pub expiry: u32,
@@ -87,25 +76,29 @@ impl Session {
     pub(crate) fn values(self) -> Values
         ensures { result ≡ ranged_values self }
     {
-        let opening = self.opening;
-        let p = self.progress;
+        let inside = parts_inside(tables::base_of(1), self.card.step1)
+            & part_inside(tables::base_of(2), self.card.step2);
+        // A variable, since the kit proves no literal with another struct's array in it.
         let outcomes = self.outcomes;
-        let card = self.card;
-        let step1 = card.step1;
-        let step2 = card.step2;
-        let inside = parts_inside(tables::base_of(1), step1)
-            & part_inside(tables::base_of(2), step2);
         Values {
-            date: opening.date,
-            expiry: card.expiry,
-            aid_len: opening.aid_len,
-            filled: p.filled,
-            mode: opening.mode,
-            step: p.step,
-            cause: p.cause,
-            outstanding: p.outstanding,
+            date: self.opening.date,
+            expiry: self.card.expiry,
+            aid_len: self.opening.aid_len,
+            filled: self.progress.filled,
+            mode: self.opening.mode,
+            step: self.progress.step,
+            cause: self.progress.cause,
+            outstanding: self.progress.outstanding,
             inside,
             outcomes,
         }
+    }
+
+    // Whether the session is dead or out of range.
+    #[tactic(auto, unfolding(crate::specs::Ranges::in_range))]
+    pub(crate) fn out_of_range(&self) -> bool
+        ensures { result ≡ out_of_range self.now }
+    {
+        self.values().out_of_range()
     }
 }

@@ -1,15 +1,22 @@
-// The session's values, by groups, and the answers of its calls.
+// The session's values, by groups, and why its calls are refused.
 ghost use Rattle.std.specs.Prelude.{◌≡◌};
-ghost use Rattle.session.specs.Operation.{reply_number};
+ghost use Rattle.card.specs.Command.{command_number};
+ghost use Rattle.session.specs.declared.state.Cause.TheVariants as causes;
+ghost use Rattle.session.specs.Tables.{is_response, is_sent_again};
+ghost use Rattle.session.specs.Operation.{given, refusal_number, refusal_never_zero, cause_number, cause_never_zero, next_of};
 
 use crate::figures::CHECKS;
-use card::command::AID_MOST;
+use card::command::{AID_MOST, CommandError};
+use card::date::UnrealDate;
+use card::fascn::UnpackError;
 use card::fascn::counts::FASCN_BYTES;
-use card::object::{FIELDS, Part};
+use card::object::{FIELDS, MalformedObject, Part};
+use card::template::MalformedTemplate;
+use common::refusal::Numbered;
 
-// The command that is sent next: that of the step, SELECT or GET DATA; GET RESPONSE with the second status byte of the answer just taken; or one of the two again, after a
-// 6C, with the last byte that the card asked for.
-#[derive(Clone, Copy)]
+// The command that is sent next: that of the step, SELECT or GET DATA; GET RESPONSE with the second status byte of the
+// answer just taken; or one of the two again, after a 6C, with the last byte that the card asked for.
+#[derive(Clone, Copy, Debug, PartialEq, Eq)]
 pub enum Next {
     Initial,
     GetResponse(u8),
@@ -17,8 +24,25 @@ pub enum Next {
     GetResponseAgain(u8),
 }
 
-// What the opening gave: mode, date as the number YYYYMMDD, and the AID, the first `aid_len` bytes.
-#[derive(Clone, Copy)]
+impl Next {
+    // Whether it is GET RESPONSE, with whatever last byte.
+    pub(crate) fn is_response(self) -> bool
+        ensures { result ≡ is_response (next_of self) }
+    {
+        matches!(self, Next::GetResponse(_) | Next::GetResponseAgain(_))
+    }
+
+    // Whether it is a command that is sent again.
+    pub(crate) fn is_sent_again(self) -> bool
+        ensures { result ≡ is_sent_again (next_of self) }
+    {
+        matches!(self, Next::InitialAgain(_) | Next::GetResponseAgain(_))
+    }
+}
+
+// What the opening gave: mode, date as the number YYYYMMDD, and the AID, the first `aid_len` bytes. aid and aid_len
+// stand apart: any length may stand there, and refusal 4 speaks of it; an image keeps both.
+#[derive(Clone, Copy, Debug, PartialEq, Eq)]
 pub struct SessionOpening {
     pub mode: u8,
     pub date: u32,
@@ -26,9 +50,10 @@ pub struct SessionOpening {
     pub aid_len: usize,
 }
 
-// Where the reading of the card stands: the step, how many bytes of its data are in the object buffer, whether a command is outstanding, the next command, and the
-// cause (16 to 22, or 0) with the status word of the answer that gave cause 16.
-#[derive(Clone, Copy)]
+// Where the reading of the card stands: the step, how many bytes of its data are in the object buffer, whether a
+// command is outstanding, the next command, and the cause (16 to 22, or 0) with the status word of the answer that gave
+// cause 16. filled is a count: the object buffer is the host's, lent anew with each answer.
+#[derive(Clone, Copy, Debug, PartialEq, Eq)]
 pub struct SessionProgress {
     pub step: u8,
     pub filled: usize,
@@ -39,9 +64,10 @@ pub struct SessionProgress {
     pub sw2: u8,
 }
 
-// What steps 1 and 2 gave: FASC-N and expiry (0 before step 1's good end), and where fields lie in their step's data: those of step 1's object, in the order of its rows,
-// and of step 2's the one that can be asked for, BC.
-#[derive(Clone, Copy)]
+// What steps 1 and 2 gave: FASC-N and expiry (0 before step 1's good end), and where fields lie in their step's data:
+// those of step 1's object, in the order of its rows, and of step 2's the one that can be asked for, BC. Zeros and no
+// Option: an expiry in range is a real date or 0, and an image keeps any number (load_save).
+#[derive(Clone, Copy, Debug, PartialEq, Eq)]
 pub struct Card {
     pub fascn: [u8; FASCN_BYTES],
     pub expiry: u32,
@@ -50,7 +76,7 @@ pub struct Card {
 }
 
 // A session. Outcomes stand in the order of the checks: 0 unneeded, 1 awaited, 2 passed, 3 failed, 4 other card.
-#[derive(Clone, Copy)]
+#[derive(Clone, Copy, Debug, PartialEq, Eq)]
 pub struct Session {
     pub opening: SessionOpening,
     pub progress: SessionProgress,
@@ -58,76 +84,159 @@ pub struct Session {
     pub card: Card,
 }
 
-// What a call answers. `reply_number` gives document 01's number of each case.
-#[derive(Clone, Copy)]
-pub enum Reply {
-    Accepted,
+// Why a call is refused, with document 01's number of each.
+#[derive(Clone, Copy, Debug, PartialEq, Eq)]
+pub enum Refusal {
     // open: mode not 1 to 6
-    WrongMode,
+    WrongMode = 1,
     // open: date not real
-    UnrealDate,
+    UnrealDate = 2,
     // open: AID not 5 to 16 bytes
-    WrongAid,
+    WrongAid = 3,
     // session dead or out of range
-    OutOfRange,
-    // command: nothing to send, that is step 3, a cause of 16 to 22, or a command outstanding; answer: no command outstanding
-    OutOfTurn,
+    OutOfRange = 4,
+    // command: nothing to send, that is step 3, a cause of 16 to 22, or a command outstanding; answer: no command
+    // outstanding
+    OutOfTurn = 5,
     // command, stamp, preview: buffer too short
-    ShortBuffer,
+    ShortBuffer = 6,
     // answer: object buffer not 20,480 bytes
-    WrongObjectBuffer,
+    WrongObjectBuffer = 7,
     // answer: under 2 or over 258 bytes
-    WrongAnswerLength,
+    WrongAnswerLength = 8,
     // verdict, preview: step not 3
-    NotAllRead,
+    NotAllRead = 9,
     // verdict, preview: kind not 1 to 5
-    UnknownKind,
+    UnknownKind = 10,
     // verdict, preview: neither 0 nor 1
-    UnknownVerdict,
+    UnknownVerdict = 11,
     // verdict, preview: not 25 bytes, or ill-formed
-    WrongFascn,
+    WrongFascn = 12,
     // verdict, preview: the mode does not need it
-    NotNeeded,
+    NotNeeded = 13,
     // verdict, preview: of a kind that was given already
-    AlreadyGiven,
+    AlreadyGiven = 14,
 }
 
-impl Reply {
-    // Document 01's number, 0 where the call is accepted.
-    pub fn number(self) -> u8
-        ensures { result ≡ reply_number self }
+impl Numbered for Refusal {
+    ghost number_of = { refusal_number };
+
+    ghost never_zero = { refusal_never_zero };
+
+    fn number(self) -> u8 {
+        self as u8
+    }
+}
+
+// A session handed back, and the answer. A refused call hands back the session as it was, and a refused opening the
+// dead one: "A session goes in by value and the new one is handed back", and so the calls take no `&mut self`.
+#[derive(Clone, Copy, Debug, PartialEq, Eq)]
+pub struct Answered {
+    pub session: Session,
+    pub reply: Result<(), Refusal>,
+}
+
+// The same of a command call, with the count of bytes that it wrote. One `Answered<T>` would serve both: it would
+// change the type in the views `given` and `command_given`, and the crates above that name the two.
+#[derive(Clone, Copy, Debug, PartialEq, Eq)]
+pub struct Commanded {
+    pub session: Session,
+    pub reply: Result<usize, Refusal>,
+}
+
+impl Answered {
+    // An accepted call gives this session.
+    pub(crate) fn accepted(session: Session) -> Answered
+        ensures { given result ≡ (0, session) }
     {
-        match self {
-            Reply::Accepted => 0,
-            Reply::WrongMode => 1,
-            Reply::UnrealDate => 2,
-            Reply::WrongAid => 3,
-            Reply::OutOfRange => 4,
-            Reply::OutOfTurn => 5,
-            Reply::ShortBuffer => 6,
-            Reply::WrongObjectBuffer => 7,
-            Reply::WrongAnswerLength => 8,
-            Reply::NotAllRead => 9,
-            Reply::UnknownKind => 10,
-            Reply::UnknownVerdict => 11,
-            Reply::WrongFascn => 12,
-            Reply::NotNeeded => 13,
-            Reply::AlreadyGiven => 14,
+        Answered {
+            session,
+            reply: Ok(()),
+        }
+    }
+
+    // A refused call hands this session back.
+    pub(crate) fn refused(session: Session, refusal: Refusal) -> Answered
+        ensures { given result ≡ (refusal_number refusal, session) }
+    {
+        Answered {
+            session,
+            reply: Err(refusal),
         }
     }
 }
 
-// The session that is handed back, and the answer.
-#[derive(Clone, Copy)]
-pub struct Answered {
-    pub session: Session,
-    pub reply: Reply,
+impl From<CommandError> for Refusal {
+    ghost from_gives = { λ e r. refusal_number r ≡ command_number e };
+
+    fn from(e: CommandError) -> Refusal {
+        match e {
+            CommandError::WrongAid => Refusal::WrongAid,
+            CommandError::ShortBuffer => Refusal::ShortBuffer,
+        }
+    }
 }
 
-// The same of a command call, with the count of bytes that it wrote; 0 where it is refused.
-#[derive(Clone, Copy)]
-pub struct Commanded {
-    pub session: Session,
-    pub reply: Reply,
-    pub count: usize,
+// Why a reading ends, with document 01's number of each: `status_cause`, `empty_cause`, `full_cause`, `fascn_cause`,
+// and those of crate card's readers. A session keeps the number, 0 where no cause has come: any byte may stand there,
+// and refusal 4 speaks of it.
+#[derive(Clone, Copy, Debug, PartialEq, Eq)]
+pub(crate) enum Cause {
+    // a status word that ends the reading
+    Status = 16,
+    // 61 without data to GET RESPONSE
+    Empty = 17,
+    // a step's total past its capacity
+    Full = 18,
+    // template malformed
+    Template = 19,
+    // object malformed
+    Object = 20,
+    // FASC-N ill-formed
+    Fascn = 21,
+    // date ill-formed
+    Date = 22,
+}
+
+impl Numbered for Cause {
+    ghost number_of = { cause_number };
+
+    ghost never_zero = { cause_never_zero };
+
+    fn number(self) -> u8 {
+        self as u8
+    }
+}
+
+impl From<MalformedTemplate> for Cause {
+    ghost from_gives = { λ _ c. c ≡ causes.Template };
+
+    fn from(_e: MalformedTemplate) -> Cause {
+        Cause::Template
+    }
+}
+
+impl From<MalformedObject> for Cause {
+    ghost from_gives = { λ _ c. c ≡ causes.Object };
+
+    fn from(_e: MalformedObject) -> Cause {
+        Cause::Object
+    }
+}
+
+// Whatever the fault of a FASC-N, the cause is one.
+impl From<UnpackError> for Cause {
+    ghost from_gives = { λ _ c. c ≡ causes.Fascn };
+
+    fn from(_e: UnpackError) -> Cause {
+        Cause::Fascn
+    }
+}
+
+impl From<UnrealDate> for Cause {
+    ghost from_gives = { λ _ c. c ≡ causes.Date };
+
+    fn from(_e: UnrealDate) -> Cause {
+        Cause::Date
+    }
 }

@@ -7,15 +7,10 @@ ghost use Rattle.text.specs.Form.{between};
 pub fn between(lowest: &[u8], highest: &[u8], s: &[u8]) -> bool
     ensures { result ≡ between lowest.now highest.now s.now }
 {
-    if s.len() != lowest.len() {
-        return false;
-    }
-    if s.len() != highest.len() {
-        return false;
-    }
-    let mut ok = true;
-    for i in 0..s.len() {
-        ok = ok & ((lowest[i] <= s[i]) & (s[i] <= highest[i]));
-    }
-    ok
+    let as_long = (s.len() == lowest.len()) & (s.len() == highest.len());
+    as_long
+        && s.iter().zip(lowest).zip(highest).fold(
+            true,
+            |ok, ((x, low), high)| ok & ((low <= x) & (x <= high)),
+        )
 }

@@ -3,18 +3,16 @@ ghost use Rattle.std.specs.Prelude.{◌≡◌, ◌+◌, ◌*◌, ◌/◌, ◌≤
 ghost use Rattle.common.specs.Lists.{written};
 ghost use Rattle.text.specs.Hex.{digit_value, is_hex, byte_at, hex_digit, hex_digit_at};
 
-use common::number;
-
-// The value of an upper-case hexadecimal digit; 16 for any other byte.
+// The value of an upper-case hexadecimal digit; 16 for any other byte. 16 and no None: byte_at takes it of any byte,
+// and would have to unwrap an Option.
+#[tactic(auto, unfolding(crate::specs::Hex::digit_value))]
 fn digit_value(x: u8) -> u8
     ensures { result ≡ digit_value x }
 {
-    if (b'0' <= x) & (x <= b'9') {
-        x - 48
-    } else if (b'A' <= x) & (x <= b'F') {
-        x - 55
-    } else {
-        16
+    match x {
+        b'0'..=b'9' => x - b'0',
+        b'A'..=b'F' => x - b'A' + 10,
+        _ => 16,
     }
 }
 
@@ -22,14 +20,13 @@ fn digit_value(x: u8) -> u8
 pub fn is_hex(s: &[u8]) -> bool
     ensures { result ≡ is_hex s.now }
 {
-    let mut digits = true;
-    for i in 0..s.len() {
-        digits = digits & (digit_value(s[i]) < 16);
-    }
-    digits & (s.len() % 2 == 0)
+    s.iter()
+        .fold(true, |digits, x| digits & (digit_value(*x) < 16))
+        & (s.len() % 2 == 0)
 }
 
 // The byte that pair i of s spells.
+#[tactic(auto, unfolding(crate::specs::Hex::byte_at))]
 fn byte_at(s: &[u8], i: usize) -> u8
     requires { 2 * i + 1 < length s.now }
     ensures { result ≡ byte_at s.now i }
@@ -43,22 +40,25 @@ pub fn read(s: &[u8], out: &mut [u8]) -> usize
     ensures stores { out.new ≡ written out.old 0 result (byte_at s.now) }
     ensures counts { (result ≤ length out.new) × (result ≡ length (take result out.new)) }
 {
-    let n = number::least(s.len() / 2, out.len());
-    for i in 0..n {
-        out[i] = byte_at(s, i);
+    let n = (s.len() / 2).min(out.len());
+    // by an index: a zip over `iter_mut` leaves a proof nothing of what it wrote
+    for (i, o) in out[..n].iter_mut().enumerate() {
+        *o = byte_at(s, i);
     }
     n
 }
 
 // The digit of x % 16.
+#[tactic(auto, unfolding(crate::specs::Hex::hex_digit))]
 pub fn digit(x: u8) -> u8
     ensures { result ≡ hex_digit x }
 {
     let h = x % 16;
-    if h < 10 { h + 48 } else { h + 55 }
+    if h < 10 { b'0' + h } else { b'A' + h - 10 }
 }
 
 // Digit i of the text that spells s: two digits a byte, the higher first.
+#[tactic(auto, unfolding(crate::specs::Hex::hex_digit_at))]
 fn digit_at(s: &[u8], i: usize) -> u8
     requires { i / 2 < length s.now }
     ensures { result ≡ hex_digit_at s.now i }
@@ -67,22 +67,15 @@ fn digit_at(s: &[u8], i: usize) -> u8
     if i % 2 == 0 { digit(x / 16) } else { digit(x) }
 }
 
-// Two a byte for n bytes, or the room where that is less.
-fn twice_within(n: usize, room: usize) -> usize
-    ensures is { result ≡ min (2 * n) room }
-    ensures inside { result ≤ room }
-{
-    if room / 2 < n { room } else { 2 * n }
-}
-
 // The digits of the text that spells s, stored at the front of out, as far as they fit; how many they are.
 pub fn write(s: &[u8], out: &mut [u8]) -> usize
     ensures is { result ≡ min (2 * length s.now) (length out.old) }
     ensures stores { out.new ≡ written out.old 0 result (hex_digit_at s.now) }
 {
-    let n = twice_within(s.len(), out.len());
-    for i in 0..n {
-        out[i] = digit_at(s, i);
+    let n = (2 * s.len()).min(out.len());
+    // by an index, as in read
+    for (i, o) in out[..n].iter_mut().enumerate() {
+        *o = digit_at(s, i);
     }
     n
 }

@@ -1,21 +1,20 @@
 -- Lists of direct calls: a host by its parts, and what is done after so many calls of a line.
 -- Assumes nothing.
-use mathlib.Core.Path.{◌≡◌, refl, sym, ap, ap₂, ◌∙◌}
+use mathlib.Core.Path.{◌≡◌, refl, ap, ap₂, ◌∙◌, sym}
 use mathlib.Core.Bool.{Bool, true, false, cond}
-use mathlib.Core.List.{List}
-use Prim.Native.Nat.{ℕ, ◌+◌, ◌-◌, ◌≤◌, ◌<◌, min}
+use mathlib.Core.List.{List, []}
+use Prim.Native.Nat.{ℕ, ◌+◌, ◌≤◌, ◌<◌}
 use native.Mathlib.Numerals.{add-one}
 use native.Mathlib.Omega.{arith}
 use lib.Dec.{eqb}
-use lib.ListN.{length, drop, length-drop}
-use lib.Seq.{drop-drop}
-use Rattle.common.proofs.ListsLaws.{drop_most}
+use lib.ListN.{length, drop}
 use Rattle.session.specs.Operation.{answer_refusal, answer_buffer}
 use Rattle.session.specs.Promise.{Host}
 use Rattle.session.specs.declared.state.Session.{Session}
-use Rattle.append.specs.Append.{Added}
-use Rattle.append.proofs.AppendLaws.{same_text, AddedSoFar, adding_none, adding_more}
+use Rattle.append.specs.Append.{added}
+use Rattle.append.proofs.AppendLaws.{added_inside, AddedSoFar, adding_none, adding_more}
 use Rattle.vectors.specs.CallsText.{call_head_size, argument_count, later_calls, first_text, after_first, calls_left, host_at}
+use Rattle.vectors.specs.Out.{text_size, with_text}
 
 -- ---- hosts
 
@@ -36,30 +35,30 @@ left_by_answer s object bytes = go (eqb (answer_refusal s (length object) (lengt
 
 -- ---- call after call
 
--- of the calls of s, made from the host h on, the first i are made: m bytes stand in the buffer d, and what is left of s begins at a place
-pub record CallsSoFar (b : List ℕ) (at : ℕ) (h : Host) (s : List ℕ) (i : ℕ) (d : List ℕ) (m : ℕ) (now : Host) (from : ℕ) : Type 0 where
-  pub texts : AddedSoFar b at (length s) (λ j. first_text (host_at h s j) (calls_left s j)) i d m
+-- of the calls of s, made from the host h on, the first i are made: the text d stands in the buffer, and a list is left of s
+pub record CallsSoFar (b : List ℕ) (h : Host) (s : List ℕ) (i : ℕ) (d : List ℕ) (now : Host) (left : List ℕ) : Type 0 where
+  pub texts : AddedSoFar 1310720 b (length s) (λ j. first_text (host_at h s j) (calls_left s j)) i d
   pub host_is : now ≡ host_at h s i
-  pub inside : from ≤ length s
-  pub left_is : drop from s ≡ calls_left s i
+  pub left_is : left ≡ calls_left s i
+  pub fits : added 1310720 d [] ≡ d
 
-pub no_call : {a b : List ℕ} {at m : ℕ} {t : List ℕ} (h : Host) (s : List ℕ) → Added a at b m t → CallsSoFar b m h s 0 b m h 0
+pub no_call : {b : List ℕ} (h : Host) (s : List ℕ) → added 1310720 b [] ≡ b → CallsSoFar b h s 0 b h s
 unfolding host_at calls_left
-no_call h s p = record { texts = adding_none p; host_is = refl; inside = omega arith; left_is = refl }
+no_call h s e = record { texts = adding_none; host_is = refl; left_is = refl; fits = e }
 
-pub one_call : {b d e : List ℕ} {at i m k from used n : ℕ} {h u v : Host} {s left : List ℕ} → CallsSoFar b at h s i d m u from → i < length s → left ≡ drop from s → Added d m e k (first_text u left) → v ≡ after_first u left
-    → n ≡ argument_count left → used ≡ min (length left) (call_head_size + n) → CallsSoFar b at h s (i + 1) e k v (from + used)
+-- what stands in the buffer fits it
+pub fitting : {d : List ℕ} → added 1310720 d [] ≡ d → length d ≤ 1310720
+fitting {d} e = rw e at (added_inside 1310720 d [])
+
+pub one_call : {b d e : List ℕ} {i n : ℕ} {h u v : Host} {s left rest : List ℕ} → CallsSoFar b h s i d u left → i < length s → e ≡ with_text d (first_text u left) → v ≡ after_first u left
+    → n ≡ argument_count left → rest ≡ drop (call_head_size + n) left → CallsSoFar b h s (i + 1) e v rest
 unfolding host_at calls_left
-one_call {i = i} {from = from} {used} {n} {s = s} {left} c l f p q r t =
-    let e : left ≡ calls_left s i = f ∙ c.left_is in
-    let size : length left ≡ length s - from = ap length f ∙ length-drop from s in
-    let later : drop (call_head_size + n) left ≡ later_calls (calls_left s i) = ap (λ (k : ℕ). drop (call_head_size + k) left) r ∙ ap later_calls e in
+one_call {b} {d} {e} {i} {n} {h} {u} {v} {s} {left} c l p q r t =
+    let named : e ≡ added 1310720 d (first_text (host_at h s i) (calls_left s i)) = p ∙ ap (with_text d) (ap₂ first_text c.host_is c.left_is) in
+    let more = adding_more c.texts l named in
     record {
-      texts = adding_more c.texts l (same_text (ap₂ first_text c.host_is e) p);
-      host_is = rw add-one (q ∙ ap₂ after_first c.host_is e);
-      inside = omega (arith, t, size, c.inside);
-      left_is = rw add-one (sym (drop-drop used from s) ∙ ap (drop used) (sym f) ∙ drop_most used (call_head_size + n) left t ∙ later);
+      texts = more;
+      host_is = rw add-one (q ∙ ap₂ after_first c.host_is c.left_is);
+      left_is = rw add-one (t ∙ ap (λ (k : ℕ). drop (call_head_size + k) left) r ∙ ap later_calls c.left_is);
+      fits = more.fits (omega arith);
     }
-
-pub all_calls_lem : {b d : List ℕ} {at i m from : ℕ} {h now : Host} {s : List ℕ} → CallsSoFar b at h s i d m now from → length s ≤ i → i ≡ length s
-all_calls_lem c l = omega (arith, l, c.texts.most)

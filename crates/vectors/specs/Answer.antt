@@ -1,6 +1,6 @@
 -- The calls by name, and the text of each one's answer. A call is a row of `call_rows` and a row of `answer_text`.
 -- Assumes nothing.
-use Rattle.std.specs.Prelude.{cond, List, [], ◌∷◌, ℕ}
+use Rattle.std.specs.Prelude.{cond, List, [], ◌∷◌, ℕ, Option, Some, None}
 use Rattle.common.specs.Lists.{same_bytes}
 use Rattle.card.specs.declared.object.Kind.TheVariants as kinds
 use Rattle.vectors.specs.RefusalText.{no_vector}
@@ -11,14 +11,14 @@ use Rattle.vectors.specs.VisualText.{looked_up_text}
 use Rattle.vectors.specs.MergeText.{merge_text}
 use Rattle.vectors.specs.CallsText.{calls_text}
 use Rattle.vectors.specs.declared.answer.VectorCall.{VectorCall}
-use Rattle.vectors.specs.declared.answer.VectorCall.TheVariants.{Unknown, Unpack, Pack, Header, Template, Date, Real, Object, Select, SelectAgain, GetData, GetResponse, Status, Cin, Merge, Calls}
+use Rattle.vectors.specs.declared.answer.VectorCall.TheVariants.{Unpack, Pack, Header, Template, Date, Real, Object, Select, SelectAgain, GetData, GetResponse, Status, Cin, Merge, Calls}
 
 -- ---- the names
 
--- The call of a name, by rows of a name and a call.
-unfoldable pub call_among : List (List ℕ × VectorCall) → List ℕ → VectorCall
-call_among [] name = Unknown
-call_among (r ∷ rs) name = cond (same_bytes name r.0) r.1 (call_among rs name)
+-- The call of a name, by rows of a name and a call; None where the name is in no row.
+unfoldable pub call_among : List (List ℕ × VectorCall) → List ℕ → Option VectorCall
+call_among [] name = None
+call_among (r ∷ rs) name = cond (same_bytes name r.0) (Some r.1) (call_among rs name)
 
 -- The names. A number is the room of the buffer that a command is lent, and `short..` lends one that may be too short.
 abbrev pub call_rows : List (List ℕ × VectorCall)
@@ -73,14 +73,13 @@ call_rows =
     ∷ (0x63 ∷ 0x61 ∷ 0x6C ∷ 0x6C ∷ 0x73 ∷ [], Calls)
     ∷ []
 
-unfoldable pub call_named : List ℕ → VectorCall
+unfoldable pub call_named : List ℕ → Option VectorCall
 call_named name = call_among call_rows name
 
 -- ---- the answers
 
 -- What a call says of the bytes s.
 unfoldable pub answer_text : VectorCall → List ℕ → List ℕ
-answer_text Unknown s = no_vector
 answer_text Unpack s = unpack_text s
 answer_text Pack s = pack_text s
 answer_text Header s = header_text s
@@ -96,3 +95,8 @@ answer_text Status s = status_text s
 answer_text Cin s = looked_up_text s
 answer_text Merge s = merge_text s
 answer_text Calls s = calls_text s
+
+-- The same where a name may be no call's.
+unfoldable pub named_text : Option VectorCall → List ℕ → List ℕ
+named_text (Some call) s = answer_text call s
+named_text None s = no_vector

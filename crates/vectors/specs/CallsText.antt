@@ -1,6 +1,6 @@
 -- A list of direct calls on a session as a line spells it (document 01; the preview: document 02, request 6), and the text of what each call gives, by crate session's definitions.
 -- Assumes nothing.
-use Rattle.std.specs.Prelude.{cond, List, [], ◌∷◌, ◌++◌, ℕ, zero, suc, ◌+◌, ◌*◌, eqb, length, get_or, take, drop, replicate}
+use Rattle.std.specs.Prelude.{cond, List, [], ◌∷◌, ◌++◌, ℕ, zero, suc, ◌+◌, ◌*◌, eqb, length, get_or, take, drop, replicate, Option, Some, None}
 use Rattle.common.specs.Lists.{number}
 use Rattle.text.specs.Hex.{hex_of}
 use Rattle.session.specs.Tables.{object_size}
@@ -9,21 +9,21 @@ use Rattle.session.specs.declared.state.Session.{Session}
 use Rattle.session.specs.Promise.{Call, Host, call_number, count_of, bytes_of, host_after}
 use Rattle.append.specs.Append.{texts_of, number_text}
 use Rattle.vectors.specs.declared.answer.calls.DirectCall.{DirectCall}
-use Rattle.vectors.specs.declared.answer.calls.DirectCall.TheVariants.{Open, Command, Answer, Verdict, Preview, Stamp, Field, None}
+use Rattle.vectors.specs.declared.answer.calls.DirectCall.TheVariants.{Open, Command, Answer, Verdict, Preview, Stamp, Field}
 
 -- ---- how a line spells a call
 
 -- One byte names the call, two bytes say how many bytes its arguments have, the high byte first, and those bytes follow, or as many as there are. A byte asked for past the end
 -- counts as 00.
-abbrev pub direct_call : ℕ → DirectCall
+abbrev pub direct_call : ℕ → Option DirectCall
 direct_call n =
-    cond (eqb n 1) Open
-    (cond (eqb n 2) Command
-    (cond (eqb n 3) Answer
-    (cond (eqb n 4) Verdict
-    (cond (eqb n 5) Preview
-    (cond (eqb n 6) Stamp
-    (cond (eqb n 7) Field None))))))
+    cond (eqb n 1) (Some Open)
+    (cond (eqb n 2) (Some Command)
+    (cond (eqb n 3) (Some Answer)
+    (cond (eqb n 4) (Some Verdict)
+    (cond (eqb n 5) (Some Preview)
+    (cond (eqb n 6) (Some Stamp)
+    (cond (eqb n 7) (Some Field) None))))))
 
 abbrev pub call_head_size : ℕ
 call_head_size = 3
@@ -63,7 +63,6 @@ room_in Verdict a = 0
 room_in Preview a = get_or a 2 0
 room_in Stamp a = get_or a 0 0
 room_in Field a = 0
-room_in None a = 0
 
 abbrev pub lent_for : DirectCall → List ℕ → List ℕ
 lent_for call a = take (room_in call a) (replicate most_room 0xFF)
@@ -126,7 +125,6 @@ direct_text Verdict h a out = numbered_text verdict_word (call_number h (Call.ve
 direct_text Preview h a out = let c = Call.preview (get_or a 0 0) (get_or a 1 0) (drop 3 a) out in buffer_text preview_word (call_number h c) (bytes_of h c)
 direct_text Stamp h a out = let c = Call.stamp out in buffer_text stamp_word (call_number h c) (bytes_of h c)
 direct_text Field h a out = field_text (bytes_of h (Call.field h.object (get_or a 0 0)))
-direct_text None h a out = none_word
 
 -- The session and the object buffer after it. An opening gives a new session, the dead one where it is refused.
 unfoldable pub after_call : DirectCall → Host → List ℕ → List ℕ → Host
@@ -137,7 +135,6 @@ after_call Verdict h a out = host_after h (Call.verdict (get_or a 0 0) (get_or a
 after_call Preview h a out = host_after h (Call.preview (get_or a 0 0) (get_or a 1 0) (drop 3 a) out)
 after_call Stamp h a out = host_after h (Call.stamp out)
 after_call Field h a out = host_after h (Call.field h.object (get_or a 0 0))
-after_call None h a out = h
 
 -- The buffer after it.
 unfoldable pub buffer_after : DirectCall → Host → List ℕ → List ℕ → List ℕ
@@ -148,22 +145,25 @@ buffer_after Verdict h a out = out
 buffer_after Preview h a out = (preview_by h.session a out).1
 buffer_after Stamp h a out = bytes_of h (Call.stamp out)
 buffer_after Field h a out = out
-buffer_after None h a out = out
 
 -- ---- the calls of a line
 
+-- The text of the call that a byte names, lent a buffer of its own, and the session and the object buffer after it;
+-- where the byte names none, `(none)`, and both as they were.
+unfoldable pub named_text : Option DirectCall → Host → List ℕ → List ℕ
+named_text (Some call) h a = direct_text call h a (lent_for call a)
+named_text None h a = none_word
+
+unfoldable pub after_named : Option DirectCall → Host → List ℕ → Host
+after_named (Some call) h a = after_call call h a (lent_for call a)
+after_named None h a = h
+
 -- The text of the first call that the bytes s spell, and the session and the object buffer after it. No bytes spell no call.
 unfoldable pub first_text : Host → List ℕ → List ℕ
-first_text h s =
-    let call = direct_call (get_or s 0 0) in
-    let a = argument_bytes s in
-    cond (eqb (length s) 0) [] (direct_text call h a (lent_for call a))
+first_text h s = cond (eqb (length s) 0) [] (named_text (direct_call (get_or s 0 0)) h (argument_bytes s))
 
 unfoldable pub after_first : Host → List ℕ → Host
-after_first h s =
-    let call = direct_call (get_or s 0 0) in
-    let a = argument_bytes s in
-    cond (eqb (length s) 0) h (after_call call h a (lent_for call a))
+after_first h s = cond (eqb (length s) 0) h (after_named (direct_call (get_or s 0 0)) h (argument_bytes s))
 
 -- What is left of the bytes s after i calls, and the session and the object buffer then, by those at the start.
 unfoldable pub calls_left : List ℕ → ℕ → List ℕ

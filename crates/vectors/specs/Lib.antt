@@ -1,4 +1,5 @@
 -- What the contracts of this crate mean.
+-- Out: the buffer that the texts of a block are added to
 -- RefusalText: the texts of the answers that more than one call gives
 -- FascnText, ObjectText, CommandText: the texts of the answers, by crate card's definitions
 -- VisualText: the text of the look-up of a typed number, by crate ccl's definitions
@@ -7,6 +8,7 @@
 -- Answer: the calls by name, and the text of each one's answer
 -- Line: the parts of a line of the input, and the text that it gives
 -- Input: the bytes of the input cut into lines, and all that is printed
+pub mod Out
 pub mod RefusalText
 pub mod FascnText
 pub mod ObjectText

@@ -4,7 +4,7 @@ use Rattle.std.specs.Prelude.{cond, ◌&&◌, List, [], ◌∷◌, ◌++◌, ℕ
 use Rattle.text.specs.Hex.{is_hex, bytes_in}
 use Rattle.common.specs.Bytes.{index_of}
 use Rattle.vectors.specs.RefusalText.{no_vector}
-use Rattle.vectors.specs.Answer.{call_named, answer_text}
+use Rattle.vectors.specs.Answer.{call_named, named_text}
 
 -- What follows the first `: `, the word in front of that, and what follows the word and a space.
 unfoldable pub after_place : List ℕ → List ℕ
@@ -22,7 +22,7 @@ most_bytes = 65536
 
 -- The answer of the call of that name for the bytes that the digits spell.
 unfoldable pub call_text : List ℕ → List ℕ → List ℕ
-call_text name digits = cond (is_hex digits && leb (length digits) (2 * most_bytes)) (answer_text (call_named name) (bytes_in digits)) no_vector
+call_text name digits = cond (is_hex digits && leb (length digits) (2 * most_bytes)) (named_text (call_named name) (bytes_in digits)) no_vector
 
 unfoldable pub answer_of_line : List ℕ → List ℕ
 answer_of_line s = call_text (first_word (after_place s)) (after_word (after_place s))

@@ -1,13 +1,12 @@
 -- The texts of what the readers of TLVs, templates, data objects and dates say.
 -- Assumes nothing.
-use Rattle.std.specs.Prelude.{Bool, cond, ◌&&◌, List, [], ◌∷◌, ◌++◌, map, ℕ, ◌+◌, ◌-◌, ◌*◌, ◌/◌, ◌%◌, eqb, ltb, length, get_or, take}
+use Rattle.std.specs.Prelude.{Bool, cond, ◌&&◌, List, [], ◌∷◌, ◌++◌, map, ℕ, ◌+◌, ◌-◌, ◌*◌, ◌/◌, ◌%◌, eqb, ltb, length, get_or, take, Option, Some, None}
 use Rattle.common.specs.Lists.{all, number}
 use Rattle.card.specs.Tlv.{tag_bytes, header_of}
 use Rattle.card.specs.Template.{template_of}
 use Rattle.card.specs.Object.{row_tag, rows_of, object_of, part_in}
 use Rattle.card.specs.Date.{real_date, date_of}
 use Rattle.card.specs.declared.tlv.Header.{Header}
-use Rattle.card.specs.declared.tlv.Header.TheVariants.{Whole, Malformed}
 use Rattle.card.specs.declared.object.Kind.{Kind}
 use Rattle.card.specs.declared.object.Part.{Part}
 use Rattle.text.specs.Hex.{hex_of}
@@ -40,9 +39,9 @@ nested_text nested = cond nested nested_word plain_word
 abbrev pub tag_word : List ℕ
 tag_word = 0x74 ∷ 0x61 ∷ 0x67 ∷ 0x20 ∷ []
 
-unfoldable pub text_of_header : Header → List ℕ
-text_of_header (Whole tag nested start len) = tag_word ++ hex_of (tag_bytes tag) ++ nested_text nested ++ place_text start len
-text_of_header Malformed = 0x6D ∷ 0x61 ∷ 0x6C ∷ 0x66 ∷ 0x6F ∷ 0x72 ∷ 0x6D ∷ 0x65 ∷ 0x64 ∷ []
+unfoldable pub text_of_header : Option Header → List ℕ
+text_of_header (Some h) = tag_word ++ hex_of (tag_bytes h.tag) ++ nested_text h.nested ++ place_text h.start h.len
+text_of_header None = 0x6D ∷ 0x61 ∷ 0x6C ∷ 0x66 ∷ 0x6F ∷ 0x72 ∷ 0x6D ∷ 0x65 ∷ 0x64 ∷ []
 
 abbrev pub header_text : List ℕ → List ℕ
 header_text s = text_of_header (header_of s)

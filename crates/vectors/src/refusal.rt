@@ -1,26 +1,31 @@
 // The answers that more than one call gives: `refused N`, `cause N` and `no vector`.
-ghost use Rattle.append.specs.Append.{Added};
+#![tactic(auto, using(append::proofs::AppendLaws::texts), unfolding(crate::specs::RefusalText::refusal_text, crate::specs::RefusalText::cause_text, crate::specs::RefusalText::no_vector))]
+
+ghost use Rattle.std.specs.Prelude.{◌≡◌};
+ghost use Rattle.vectors.specs.Out.{with_text};
 ghost use Rattle.vectors.specs.RefusalText.{refusal_text, cause_text, no_vector};
 
-// `refused N`.
-pub(crate) fn add_refused(out: &mut [u8], at: usize, n: u8) -> usize
-    ensures { Added out.old at out.new result (refusal_text n) }
+use crate::Out;
+
+// `refused N`. It differs from `add_cause` in a word alone: two functions, so that no caller spells the word.
+pub(crate) fn add_refused(out: &mut Out, n: u8)
+    ensures { out.new ≡ with_text out.old (refusal_text n) }
 {
-    let head = append::add(out, at, b"refused ");
-    append::add_decimal(out, head, n as u64)
+    out.add(b"refused ");
+    out.add_decimal(n as u64);
 }
 
 // `cause N`.
-pub(crate) fn add_cause(out: &mut [u8], at: usize, n: u8) -> usize
-    ensures { Added out.old at out.new result (cause_text n) }
+pub(crate) fn add_cause(out: &mut Out, n: u8)
+    ensures { out.new ≡ with_text out.old (cause_text n) }
 {
-    let head = append::add(out, at, b"cause ");
-    append::add_decimal(out, head, n as u64)
+    out.add(b"cause ");
+    out.add_decimal(n as u64);
 }
 
 // `no vector`.
-pub(crate) fn add_no_vector(out: &mut [u8], at: usize) -> usize
-    ensures { Added out.old at out.new result no_vector }
+pub(crate) fn add_no_vector(out: &mut Out)
+    ensures { out.new ≡ with_text out.old no_vector }
 {
-    append::add(out, at, b"no vector")
+    out.add(b"no vector");
 }

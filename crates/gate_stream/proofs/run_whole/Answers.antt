@@ -1,35 +1,27 @@
--- `gate_stream::run_whole` meets its contract: what was fed, from the start to the end. Assumes nothing.
-use mathlib.Core.Path.{◌≡◌, sym, ◌∙◌}
-use native.Mathlib.Omega.{arith}
+-- `gate_stream::run_whole` meets its contract: what was fed, from the start to the end, and the text of the end. Assumes nothing.
+use mathlib.Core.Path.{◌≡◌, subst}
 use borrow.Author.Rules.{rules}
-use lib.ListN.{length}
-use Rattle.gate_stream.specs.Stream.{out_size}
-use Rattle.gate_stream.proofs.StreamLaws.{start_fresh, ends_with, ends_none, ends_some}
-use Rattle.gate_stream.proofs.run_whole.Given as given
+use Rattle.std.proofs.Common.{Result, Err, OnOk, IfErr, replicate}
+use Rattle.std.specs.Io.KnownBytes.{Appends}
+use Rattle.session.specs.Tables.{object_size}
+use Rattle.gate_stream.specs.Stream.{Fed}
+use Rattle.gate_stream.specs.declared.GateError.{GateError}
+use Rattle.gate_stream.specs.declared.GateError.TheVariants.{NoEnd}
+use Rattle.gate_stream.proofs.StreamLaws.{ends_failed, ends_with}
 use Rattle.gate_stream.proofs.run_whole.Goals as goal
-use Rattle.gate_stream.proofs.run_whole.Goals.{After-run_input-end}
 
--- the buffer for text keeps its size
-out_long : (g : given.Over) (c : goal.After-run_input-end g) → length c.run_input-end.new.out ≡ out_size
-out_long g c =
-    let same : length c.run_input-end.new.out ≡ length c.args.out.now = search rules in
-    same ∙ c.requires.1
-
-pub returns-then-stops : goal.returns-then-stops
-returns-then-stops g c = record { for_every_list = ends_none _ _ _ (sym c.stops.ensures ∙ c.if-stops.true) }
-
-pub last_text-n-requires : goal.last_text-n-requires
-last_text-n-requires g c = out_long g (goal.at.last_text-n-requires g c).After-run_input-end
-
-pub write_out-wrote-requires : goal.write_out-wrote-requires
-write_out-wrote-requires g c =
-    let same : length c.last_text-n.new.out ≡ length c.run_input-end.new.out = search rules in
-    omega (arith, c.last_text-n.ensures.inside, same, out_long g (goal.at.write_out-wrote-requires g c).After-run_input-end)
+pub returns-in_err-fed : goal.returns-in_err-fed
+returns-in_err-fed g c =
+    let e : c.run_input-fed.result ≡ Err c.in_err-fed.field-0.0 = c.in_err-fed.was in
+    let k : c.from_residual.result ≡ Err c.in_err-fed.field-0.0 = search rules in
+    let f = subst (λ (r : Result Unit GateError). Fed c.new-gate.result c.run_input-fed.new.gate (g.R.Read.remaining c.args.from.now) (g.R.Read.remaining c.run_input-fed.new.from)
+    (g.W.Write.contents c.args.to.now) (g.W.Write.contents c.run_input-fed.new.to) r) e c.run_input-fed.ensures in
+    record { for_every_list = rw k (ends_failed (replicate object_size 0) _ _ _ _ _ _ _ c.in_err-fed.field-0.0 c.new-gate.ensures f c.clear.ensures) }
 
 pub returns : goal.returns
 returns g c =
-    let begins = start_fresh c.start-state.result c.args.cards.now c.args.object.now c.args.line.now c.start-state.ensures in
-    record {
-      for_every_list = ends_some _ _ _ _ (sym c.stops.ensures ∙ c.if-stops.false)
-          (ends_with c.args.object.now _ _ _ _ _ _ begins c.run_input-end.ensures (c.write_out-wrote.ensures ∙ c.last_text-n.ensures.is) c.last_text-n.ensures.prints);
-    }
+    let f = subst (λ (r : Result Unit GateError). Fed c.new-gate.result c.run_input-fed.new.gate (g.R.Read.remaining c.args.from.now) (g.R.Read.remaining c.run_input-fed.new.from)
+    (g.W.Write.contents c.args.to.now) (g.W.Write.contents c.run_input-fed.new.to) r) c.in_ok-fed.was c.run_input-fed.ensures in
+    let w : OnOk c.map_err.result (Appends (g.W.Write.contents c.run_input-fed.new.to) (g.W.Write.contents c.write_all.new.self) c.last_text.new.out) = search rules in
+    let n : IfErr c.map_err.result (λ (why : GateError). why ≡ NoEnd) = search rules in
+    record { for_every_list = ends_with (replicate object_size 0) _ _ _ _ _ _ _ _ c.map_err.result c.new-gate.ensures f c.last_text.ensures w n }

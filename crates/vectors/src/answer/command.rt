@@ -1,135 +1,112 @@
 // The texts of what the writers of commands and the reader of status words say.
-ghost use Rattle.std.specs.Prelude.{◌≡◌, [], ◌∷◌, ◌++◌};
-ghost use Rattle.card.specs.Command.{command_answer, select_of, get_data_of, get_response_of};
-ghost use Rattle.text.specs.Hex.{hex_of};
-ghost use Rattle.append.specs.Append.{Added};
-ghost use Rattle.vectors.specs.CommandText.{written_text, unwritten_text, command_text, select_text, select_again_text, get_data_text, get_response_text, status_text};
+#![tactic(auto, using(append::proofs::AppendLaws::texts), unfolding(crate::specs::CommandText::written_text, crate::specs::CommandText::unwritten_text, crate::specs::CommandText::command_text, crate::specs::CommandText::select_text, crate::specs::CommandText::select_again_text, crate::specs::CommandText::get_data_text, crate::specs::CommandText::get_response_text, crate::specs::CommandText::text_of_status, crate::specs::CommandText::spare))]
 
-use crate::refusal;
+ghost use Rattle.std.specs.Prelude.{◌≡◌, [], ◌∷◌, ◌++◌};
+ghost use Rattle.card.specs.Command.{command_answer};
+ghost use Rattle.text.specs.Hex.{hex_of};
+ghost use Rattle.vectors.specs.CommandText.{written_text, unwritten_text, command_text, select_text, select_again_text, get_data_text, get_response_text, status_text};
+ghost use Rattle.vectors.specs.Out.{with_text};
+
+use crate::{Out, refusal};
 use card::command;
-use card::command::{CommandAnswer, Status};
+use card::command::{CommandError, Status};
 use card::object::Kind;
-use common::{number, slice};
+use common::refusal::Numbered;
+use common::slice;
 
 // The most bytes of a buffer that a command is lent; `spare_size` in the definitions.
 const SPARE: usize = 24;
 
 // How many bytes were written, and the buffer: those bytes, then the rest.
-fn add_written(out: &mut [u8], at: usize, n: usize, buffer: &[u8]) -> usize
-    ensures { Added out.old at out.new result (written_text n buffer.now) }
+fn add_written(out: &mut Out, n: usize, buffer: &[u8])
+    ensures { out.new ≡ with_text out.old (written_text n buffer.now) }
 {
-    let count = append::add_decimal(out, at, n as u64);
-    let head = append::add(out, count, b" bytes ");
-    let first = append::add_hex(out, head, slice::front(buffer, n));
-    let middle = append::add(out, first, b", then ");
-    append::add_hex(out, middle, slice::after(buffer, n))
+    out.add_decimal(n as u64);
+    out.add(b" bytes ");
+    out.add_hex(slice::front(buffer, n));
+    out.add(b", then ");
+    out.add_hex(slice::after(buffer, n));
 }
 
 // The number of a refusal, and the buffer.
-fn add_unwritten(out: &mut [u8], at: usize, n: u8, buffer: &[u8]) -> usize
-    ensures { Added out.old at out.new result (unwritten_text n buffer.now) }
+fn add_unwritten(out: &mut Out, n: u8, buffer: &[u8])
+    ensures { out.new ≡ with_text out.old (unwritten_text n buffer.now) }
 {
-    let refused = refusal::add_refused(out, at, n);
-    let head = append::add(out, refused, b", the buffer ");
-    append::add_hex(out, head, buffer)
+    refusal::add_refused(out, n);
+    out.add(b", the buffer ");
+    out.add_hex(buffer);
 }
 
 // What a command answered, and its buffer.
-fn add_answer(out: &mut [u8], at: usize, answer: CommandAnswer, buffer: &[u8]) -> usize
-    ensures { Added out.old at out.new result (command_text (command_answer answer, buffer.now)) }
+fn add_answer(out: &mut Out, answer: Result<usize, CommandError>, buffer: &[u8])
+    ensures { out.new ≡ with_text out.old (command_text (command_answer answer, buffer.now)) }
 {
     match answer {
-        CommandAnswer::Written(n) => add_written(out, at, n, buffer),
-        CommandAnswer::WrongAid => add_unwritten(out, at, 3, buffer),
-        CommandAnswer::ShortBuffer => add_unwritten(out, at, 6, buffer),
+        Ok(n) => add_written(out, n, buffer),
+        Err(error) => add_unwritten(out, error.number(), buffer),
     }
 }
 
-// SELECT of the AID s with a last byte, into a buffer.
-fn select_into(out: &mut [u8], at: usize, s: &[u8], last: u8, buffer: &mut [u8]) -> usize
-    ensures text { Added out.old at out.new result (command_text (select_of s.now last buffer.old)) }
-    ensures holds { buffer.new ≡ (select_of s.now last buffer.old).1 }
-{
-    let answer = command::select(s, last, buffer);
-    add_answer(out, at, answer, buffer)
-}
-
-// GET DATA of an object with a last byte, into a buffer.
-fn get_data_into(out: &mut [u8], at: usize, kind: Kind, last: u8, buffer: &mut [u8]) -> usize
-    ensures text { Added out.old at out.new result (command_text (get_data_of kind last buffer.old)) }
-    ensures holds { buffer.new ≡ (get_data_of kind last buffer.old).1 }
-{
-    let answer = command::get_data(kind, last, buffer);
-    add_answer(out, at, answer, buffer)
-}
-
-// GET RESPONSE with a byte, into a buffer.
-fn get_response_into(out: &mut [u8], at: usize, second: u8, buffer: &mut [u8]) -> usize
-    ensures text { Added out.old at out.new result (command_text (get_response_of second buffer.old)) }
-    ensures holds { buffer.new ≡ (get_response_of second buffer.old).1 }
-{
-    let answer = command::get_response(second, buffer);
-    add_answer(out, at, answer, buffer)
-}
-
-// What select says of the AID s with a last byte, with so much room.
-pub(crate) fn add_select(out: &mut [u8], at: usize, last: u8, room: usize, s: &[u8]) -> usize
-    ensures { Added out.old at out.new result (select_text last room s.now) }
+// What select says of the AID s with a last byte, with so much room. The buffer is lent in each of these functions: one
+// for all would take a closure, and a clause on what any closure writes.
+pub(crate) fn add_select(out: &mut Out, last: u8, room: usize, s: &[u8])
+    ensures { out.new ≡ with_text out.old (select_text last room s.now) }
 {
     let mut spare = [0xFFu8; SPARE];
-    let n = number::least(SPARE, room);
-    select_into(out, at, s, last, &mut spare[..n])
+    let buffer = &mut spare[..SPARE.min(room)];
+    let answer = command::select(s, last, buffer);
+    add_answer(out, answer, buffer);
 }
 
 // The same of a line that spells the last byte, and then the AID.
-pub(crate) fn add_select_again(out: &mut [u8], at: usize, room: usize, s: &[u8]) -> usize
-    ensures { Added out.old at out.new result (select_again_text room s.now) }
+pub(crate) fn add_select_again(out: &mut Out, room: usize, s: &[u8])
+    ensures { out.new ≡ with_text out.old (select_again_text room s.now) }
 {
-    add_select(out, at, slice::byte(s, 0), room, slice::after(s, 1))
+    add_select(out, slice::byte(s, 0), room, slice::after(s, 1));
 }
 
 // What get_data says, with so much room; the line spells no bytes, or the last byte.
-pub(crate) fn add_get_data(out: &mut [u8], at: usize, kind: Kind, room: usize, s: &[u8]) -> usize
-    ensures { Added out.old at out.new result (get_data_text kind room s.now) }
+pub(crate) fn add_get_data(out: &mut Out, kind: Kind, room: usize, s: &[u8])
+    ensures { out.new ≡ with_text out.old (get_data_text kind room s.now) }
 {
-    if 1 < s.len() {
-        return refusal::add_no_vector(out, at);
+    if s.len() > 1 {
+        return refusal::add_no_vector(out);
     }
-    let last = slice::byte(s, 0);
     let mut spare = [0xFFu8; SPARE];
-    let n = number::least(SPARE, room);
-    get_data_into(out, at, kind, last, &mut spare[..n])
+    let buffer = &mut spare[..SPARE.min(room)];
+    let answer = command::get_data(kind, slice::byte(s, 0), buffer);
+    add_answer(out, answer, buffer);
 }
 
 // What get_response says of the one byte of s, with so much room.
-pub(crate) fn add_get_response(out: &mut [u8], at: usize, room: usize, s: &[u8]) -> usize
-    ensures { Added out.old at out.new result (get_response_text room s.now) }
+pub(crate) fn add_get_response(out: &mut Out, room: usize, s: &[u8])
+    ensures { out.new ≡ with_text out.old (get_response_text room s.now) }
 {
     if s.len() != 1 {
-        return refusal::add_no_vector(out, at);
+        return refusal::add_no_vector(out);
     }
     let mut spare = [0xFFu8; SPARE];
-    let n = number::least(SPARE, room);
-    get_response_into(out, at, s[0], &mut spare[..n])
+    let buffer = &mut spare[..SPARE.min(room)];
+    let answer = command::get_response(s[0], buffer);
+    add_answer(out, answer, buffer);
 }
 
 // A word, and the second status byte.
-fn add_second(out: &mut [u8], at: usize, word: &[u8], second: u8) -> usize
-    ensures { Added out.old at out.new result (word.now ++ hex_of (second ∷ [])) }
+fn add_second(out: &mut Out, word: &[u8], second: u8)
+    ensures { out.new ≡ with_text out.old (word.now ++ hex_of (second ∷ [])) }
 {
-    let byte = [second];
-    let head = append::add(out, at, word);
-    append::add_hex(out, head, &byte)
+    out.add(word);
+    out.add_hex(&[second]);
 }
 
 // What status_of says of s.
-pub(crate) fn add_status(out: &mut [u8], at: usize, s: &[u8]) -> usize
-    ensures { Added out.old at out.new result (status_text s.now) }
+pub(crate) fn add_status(out: &mut Out, s: &[u8])
+    ensures { out.new ≡ with_text out.old (status_text s.now) }
 {
     match command::status_of(s) {
-        Status::Done => append::add(out, at, b"done"),
-        Status::More(second) => add_second(out, at, b"more ", second),
-        Status::Again(last) => add_second(out, at, b"again ", last),
-        Status::Other => append::add(out, at, b"other"),
+        Status::Done => out.add(b"done"),
+        Status::More(second) => add_second(out, b"more ", second),
+        Status::Again(last) => add_second(out, b"again ", last),
+        Status::Other => out.add(b"other"),
     }
 }

@@ -1,38 +1,28 @@
--- `card::command::status_of` meets its contract: each test of the definition is one of the code. Assumes nothing.
-use mathlib.Core.Path.{sym, ◌∙◌}
-use borrow.Author.Tests.{eq-eqb, ne_eqb}
-use Rattle.card.specs.Command.{status_of}
+-- `card::command::status_of` meets its contract: each pattern is a test of the definition. Assumes nothing.
+use mathlib.Core.Path.{◌≡◌}
+use native.Mathlib.Omega.{arith}
+use lib.ListN.{length}
+use Rattle.std.proofs.Common.{rules}
+use Rattle.card.proofs.CommandLaws.{status_done, status_more, status_again, status_not_two, status_unlike, status_none}
 use Rattle.card.proofs.command.status_of.Goals as goal
 
-pub returns-then-s-ne2 : goal.returns-then-s-ne2
-unfolding status_of
-returns-then-s-ne2 c = rw (ne_eqb _ _ c.if-s-ne2.true)
+pub returns-in-144 : goal.returns-in-144
+returns-in-144 c = search (rules, status_done)
 
-pub returns-then-same : goal.returns-then-same
-unfolding status_of
-returns-then-same c = simp (eq-eqb _ _ c.if-s-ne2.false, sym c.same.ensures ∙ c.if-same.true)
+pub returns-in-97 : goal.returns-in-97
+returns-in-97 c = search (rules, status_more)
 
-pub returns-then-same-2 : goal.returns-then-same-2
-unfolding status_of
-returns-then-same-2 c =
-    simp (eq-eqb _ _ c.if-s-ne2.false, sym c.same.ensures ∙ c.if-same.false, sym c.same-2.ensures ∙ c.if-same-2.true)
+pub returns-in-108 : goal.returns-in-108
+returns-in-108 c = search (rules, status_again)
 
-pub returns-then-same-3 : goal.returns-then-same-3
-unfolding status_of
-returns-then-same-3 c =
-    simp (
-      eq-eqb _ _ c.if-s-ne2.false,
-      sym c.same.ensures ∙ c.if-same.false,
-      sym c.same-2.ensures ∙ c.if-same-2.false,
-      sym c.same-3.ensures ∙ c.if-same-3.true,
-    )
+pub returns-in_default : goal.returns-in_default
+returns-in_default c = search (rules, status_not_two)
 
-pub returns-else-same-3 : goal.returns-else-same-3
-unfolding status_of
-returns-else-same-3 c =
-    simp (
-      eq-eqb _ _ c.if-s-ne2.false,
-      sym c.same.ensures ∙ c.if-same.false,
-      sym c.same-2.ensures ∙ c.if-same-2.false,
-      sym c.same-3.ensures ∙ c.if-same-3.false,
-    )
+pub returns-in_default-2 : goal.returns-in_default-2
+returns-in_default-2 c = search (rules, status_unlike)
+
+pub returns-in_default-3 : goal.returns-in_default-3
+returns-in_default-3 c = status_none _ (omega arith) (omega arith) (λ k. grind arith) (λ k. grind arith) (λ k. grind arith)
+
+pub returns-in_default-4 : goal.returns-in_default-4
+returns-in_default-4 c = status_not_two _ (λ (e : length c.args.s.now ≡ 2). omega arith)

@@ -1,20 +1,27 @@
--- `card::date::days_in` meets its contract: each return by the tests before it. Assumes nothing.
-use borrow.Author.Tests.{eq-eqb, ne_eqb}
+-- `card::date::days_in` meets its contract: each return by the month. Assumes nothing.
+use mathlib.Core.Path.{◌≡◌}
+use Prim.Native.Nat.{ℕ}
+use borrow.Author.Tests.{ne_eqb}
+use native.Mathlib.Omega.{arith}
 use Rattle.card.specs.Date.{days_in}
 use Rattle.card.proofs.date.days_in.Goals as goal
 
 pub returns-then-leap_year : goal.returns-then-leap_year
 unfolding days_in
-returns-then-leap_year c = simp (eq-eqb _ _ c.if-m-eq2.true, ← c.leap_year.ensures, c.if-leap_year.true)
+returns-then-leap_year c = rw (c.in-2.is, ← c.leap_year.ensures, c.if-leap_year.true)
 
 pub returns-else-leap_year : goal.returns-else-leap_year
 unfolding days_in
-returns-else-leap_year c = simp (eq-eqb _ _ c.if-m-eq2.true, ← c.leap_year.ensures, c.if-leap_year.false)
+returns-else-leap_year c = rw (c.in-2.is, ← c.leap_year.ensures, c.if-leap_year.false)
 
-pub returns-then-m : goal.returns-then-m
+pub returns-in-4 : goal.returns-in-4
 unfolding days_in
-returns-then-m c = simp (ne_eqb _ _ c.if-m-eq2.false, c.if-m.true)
+returns-in-4 c = grind arith
 
-pub returns-else-m : goal.returns-else-m
+-- no other month
+others : (y m : ℕ) → (m ≡ 2 → ⊥) → (m ≡ 4 → ⊥) → (m ≡ 6 → ⊥) → (m ≡ 9 → ⊥) → (m ≡ 11 → ⊥) → 31 ≡ days_in y m
 unfolding days_in
-returns-else-m c = simp (ne_eqb _ _ c.if-m-eq2.false, c.if-m.false)
+others y m a b d e f = simp (ne_eqb m 2 a, ne_eqb m 4 b, ne_eqb m 6 d, ne_eqb m 9 e, ne_eqb m 11 f)
+
+pub returns-in_default : goal.returns-in_default
+returns-in_default c = let h = c.in_default in others _ _ (λ k. grind arith) (λ k. grind arith) (λ k. grind arith) (λ k. grind arith) (λ k. grind arith)

@@ -1,63 +1,64 @@
--- `card::date::read` meets its contract: a turn adds a digit and its test. Assumes nothing.
-use mathlib.Core.Path.{◌≡◌, refl, sym, ◌∙◌}
-use mathlib.Core.Bool.{cond, ◌&&◌, and_assoc}
+-- `card::date::read` meets its contract: a turn adds a digit, and all are tested after it. Assumes nothing.
+use mathlib.Core.Path.{◌≡◌, refl, sym, ap, ◌∙◌}
+use mathlib.Core.Bool.{cond, ◌&&◌}
 use mathlib.Core.List.{List}
-use Prim.Native.Nat.{ℕ, ◌*◌, ◌^◌, ◌<◌}
+use Prim.Native.Nat.{ℕ, ◌+◌, ◌*◌, ◌^◌, ◌<◌}
 use native.Mathlib.Omega.{arith}
-use borrow.Author.Rules.{rules}
+use borrow.Author.Tests.{tests}
 use lib.Dec.{leb}
-use lib.ListN.{get_or}
+use lib.ListN.{length}
+use Rattle.std.proofs.Common.{rules}
+use Rattle.std.proofs.lemmas.Iterator.{YieldsList-from_slice}
+use Rattle.std.proofs.lemmas.Iterator.Search.{all_from_yields_List}
 use Rattle.common.specs.Lists.{all, number}
 use Rattle.common.specs.Decimal.{is_digit_at, spelled}
-use Rattle.card.specs.Date.{date_of}
-use Rattle.common.proofs.ListsLaws.{all_more}
 use Rattle.common.proofs.DecimalLaws.{spelled_more, spelled_room}
+use Rattle.common.proofs.FoldLaws.{list_all_is}
+use Rattle.card.specs.Date.{date_of, real_date}
 use Rattle.card.proofs.DateLaws.{date_is, not_eight}
 use Rattle.card.proofs.date.read.Goals as goal
-use Rattle.card.proofs.date.read.Goals.{After-real}
+use Rattle.card.proofs.date.read.Goals.{After-all, else-all-via-then-all+else-real, else-all-via-else-all}
 
 pub returns-then-s-ne-DATE_DIGITS : goal.returns-then-s-ne-DATE_DIGITS
-unfolding spelled number all
 returns-then-s-ne-DATE_DIGITS c = sym (not_eight _ c.if-s-ne-DATE_DIGITS.true)
 
 -- while digits are left to read, n is small
 small : (s : List ℕ) (i : ℕ) {n : ℕ} → i < 8 → n ≡ spelled i s → n < 2 * 10 ^ 7
 small s i h e = spelled_room s i 7 (omega arith) e
 
-pub loop-i-init : goal.loop-i-init
-unfolding spelled number all
-loop-i-init c = (omega arith, refl, refl)
-
-pub loop-i-preserved : goal.loop-i-preserved
-unfolding is_digit_at
-loop-i-preserved c =
-    let b = get_or c.args.s.now c.loop-i.i 0 in (
-      search rules,
-      spelled_more c.args.s.now c.loop-i.i c.loop-i.invariant.1,
-      and_assoc c.loop-i.ok (leb 0x30 b) (leb b 0x39) ∙ all_more (is_digit_at c.args.s.now) c.loop-i.i c.loop-i.invariant.2 refl,
-    )
-
--- after the loop, the two tests decide
-decided : (c : goal.After-real)
-    → date_of c.args.s.now ≡ cond (c.loop-i.ok && c.real.result) (0, c.loop-i.n) (22, 0)
-decided c = date_is c.args.s.now (omega arith) (omega arith) c.loop-i.invariant.1 c.loop-i.invariant.2 c.real.ensures
-
-pub returns-then-ok-real : goal.returns-then-ok-real
-unfolding spelled number all
-returns-then-ok-real c = rw (decided (goal.at.returns-then-ok-real c).After-real, c.if-ok-real.true)
-
-pub returns-else-ok-real : goal.returns-else-ok-real
-unfolding spelled number all
-returns-else-ok-real c = rw (decided (goal.at.returns-else-ok-real c).After-real, c.if-ok-real.false)
+pub loop-digit-init : goal.loop-digit-init
+unfolding spelled number
+loop-digit-init c = refl
 
 pub overflow_mul-n : goal.overflow_mul-n
-unfolding spelled number all
-overflow_mul-n c = omega (arith, small c.args.s.now c.loop-i.i (omega arith) c.loop-i.invariant.1)
-
-pub overflow_cast-n : goal.overflow_cast-n
-unfolding spelled number all
-overflow_cast-n c = omega arith
+overflow_mul-n c = omega (arith, small c.args.s.now c.loop-digit.digit-index (omega arith) c.loop-digit.invariant)
 
 pub overflow_add-n : goal.overflow_add-n
-unfolding spelled number all
-overflow_add-n c = omega (arith, small c.args.s.now c.loop-i.i (omega arith) c.loop-i.invariant.1)
+overflow_add-n c = omega (arith, small c.args.s.now c.loop-digit.digit-index (omega arith) c.loop-digit.invariant)
+
+pub loop-digit-preserved : goal.loop-digit-preserved
+loop-digit-preserved c = ap (λ (x : ℕ). c.loop-digit.n * 10 + x) c.from.ensures ∙ spelled_more c.args.s.now c.loop-digit.digit-index c.loop-digit.invariant
+
+-- the test of all digits, in the definition's words
+tested : (c : goal.After-all) → c.all.result ≡ all (length c.args.s.now) (is_digit_at c.args.s.now)
+unfolding is_digit_at
+tested c =
+    all_from_yields_List (λ x. leb 0x30 x && leb x 0x39) _ _ _ c.all.ensures.ran (YieldsList-from_slice c.args.s.now cc) (λ x b q k. search (rules, tests))
+    ∙ list_all_is (λ x. leb 0x30 x && leb x 0x39) c.args.s.now
+
+-- after the loop, the two tests decide
+decided : (c : goal.After-all) → date_of c.args.s.now ≡ cond (c.all.result && real_date c.loop-digit.n) (0, c.loop-digit.n) (22, 0)
+decided c =
+    let eight : length c.args.s.now ≡ 8 = omega arith in
+    let whole : c.loop-digit.digit-index ≡ 8 = omega arith in
+    let n : c.loop-digit.n ≡ spelled c.loop-digit.digit-index c.args.s.now = c.loop-digit.invariant in
+    date_is c.args.s.now eight whole n (tested c ∙ ap (λ (m : ℕ). all m (is_digit_at c.args.s.now)) (eight ∙ sym whole)) refl
+
+pub returns-then-real : goal.returns-then-real
+returns-then-real c = rw (decided (goal.at.returns-then-real c).After-all, c.if-all.true, ← c.real.ensures, c.if-real.true)
+
+pub returns-else-all : goal.returns-else-all
+returns-else-all c = elim c.else-all.branch [
+  | else-all-via-then-all+else-real w ↦ rw (decided (goal.at.returns-else-all c).After-all, w.if-all.true, ← w.real.ensures, w.if-real.false)
+  | else-all-via-else-all w ↦ rw (decided (goal.at.returns-else-all c).After-all, w.if-all.false)
+]

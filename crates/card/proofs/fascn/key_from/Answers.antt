@@ -3,7 +3,6 @@ use mathlib.Core.Path.{◌≡◌, refl, ap, ◌∙◌}
 use Prim.Native.Nat.{ℕ, ◌+◌, ◌*◌, ◌^◌, ◌≤◌, ◌<◌}
 use native.Mathlib.Numerals.{add-one}
 use native.Mathlib.Omega.{arith}
-use borrow.Author.Rules.{rules}
 use lib.Dec.{lit<}
 use lib.ListN.{get_or}
 use Rattle.common.specs.Lists.{number}
@@ -20,24 +19,23 @@ small k h = pow-le-pow_right {n = 10} (lit< tt) {i = k} {j = 15} (omega arith)
 
 pub overflow_mul-n : goal.overflow_mul-n
 unfolding number
-overflow_mul-n c = omega (arith, small c.loop-k.k (omega arith))
+overflow_mul-n c = omega (arith, small c.loop-digit.digit-index (omega arith))
 
 pub overflow_add-n : goal.overflow_add-n
 unfolding number
-overflow_add-n c = omega (arith, small c.loop-k.k (omega arith))
+overflow_add-n c = omega (arith, small c.loop-digit.digit-index (omega arith))
 
-pub loop-k-init : goal.loop-k-init
+pub loop-digit-init : goal.loop-digit-init
 unfolding number
-loop-k-init c = (omega arith, refl, omega arith)
+loop-digit-init c = (refl, omega arith)
 
-pub loop-k-preserved : goal.loop-k-preserved
+pub loop-digit-preserved : goal.loop-digit-preserved
 unfolding number
-loop-k-preserved c = (
-  search rules,
-  ap (λ (x : ℕ). c.loop-k.n * 10 + x) c.wide.ensures.0 ∙ number_more 10 (λ j. get_or c.args.d.now j 0) c.loop-k.k c.loop-k.invariant.1,
-  omega (arith, ten c.loop-k.k),
+loop-digit-preserved c = (
+  ap (λ (x : ℕ). c.loop-digit.n * 10 + x) c.from.ensures ∙ number_more 10 (λ j. get_or c.args.d.now j 0) c.loop-digit.digit-index c.loop-digit.invariant.0,
+  omega (arith, ten c.loop-digit.digit-index),
 )
 
 pub returns : goal.returns
 unfolding key_of
-returns c = let e : c.loop-k.k ≡ 16 = omega arith in rw e at c.loop-k.invariant.1
+returns c = let e : c.loop-digit.digit-index ≡ 16 = omega arith in rw e at c.loop-digit.invariant.0

@@ -1,59 +1,52 @@
 -- `card::template::walk` meets its contract. Assumes nothing.
-use mathlib.Core.Path.{refl, sym, ◌∙◌}
+use mathlib.Core.Path.{◌≡◌, refl, sym, ap, ◌∙◌}
+use Prim.Native.Nat.{◌+◌}
 use native.Mathlib.Omega.{arith}
-use borrow.Author.Tests.{not-false, not-true}
-use lib.ListN.{drop}
-use Rattle.card.proofs.TlvLaws.{place_inside, header_start, known}
+use lib.ListN.{length, length-drop}
+use Rattle.std.specs.Prelude.{Some}
+use Rattle.card.specs.Tlv.{header_of}
+use Rattle.card.specs.TemplateCode.{walked}
+use Rattle.card.specs.declared.template.Aids.TheVariants.{Absent}
+use Rattle.card.proofs.TlvLaws.{header_inside, header_start}
 use Rattle.card.proofs.TemplateLaws.{walk_end, walk_deep, walk_bad, walk_past, walk_broken, plain_passes, nested_passes, nested_fails}
 use Rattle.card.proofs.template.+walk.Goals as goal
-use Rattle.card.proofs.template.+walk.Goals.{then-nested+else-not-inner, else-nested}
+use Rattle.card.proofs.template.+walk.Goals.{then-header+in_ok-walk, else-header}
 
-pub loop-at-init : goal.loop-at-init
-loop-at-init t c = (omega arith, refl)
+pub loop-rest-init : goal.loop-rest-init
+loop-rest-init t c = (refl, omega arith)
 
 pub returns-then-depth-eq0 : goal.returns-then-depth-eq0
-returns-then-depth-eq0 t c = sym (c.loop-at.invariant.1 ∙ walk_deep c.args.s.now _ _ _ c.loop-at-test.true c.if-depth-eq0.true)
+returns-then-depth-eq0 t c = sym (c.loop-rest.invariant.0 ∙ walk_deep _ _ _ (grind arith) c.if-depth-eq0.true)
 
-pub returns-in_default : goal.returns-in_default
-returns-in_default t c =
-    sym (c.loop-at.invariant.1 ∙ walk_bad c.args.s.now _ _ _ c.loop-at-test.true c.if-depth-eq0.false
-    (known c.in_default.is c.next_header.ensures c.after.ensures))
+pub returns-in_err-header : goal.returns-in_err-header
+returns-in_err-header t c = c.from_residual.ensures ∙ sym (c.loop-rest.invariant.0 ∙ walk_bad _ _ _ (grind arith) c.if-depth-eq0.false (sym c.in_err-header.was ∙ c.next_header.ensures))
 
-pub overflow_add-a : goal.overflow_add-a
-overflow_add-a t c = omega (arith, place_inside c.args.s.now c.loop-at.at (known c.in-Whole.is c.next_header.ensures c.after.ensures) c.loop-at.invariant.0)
+pub overflow_add-header : goal.overflow_add-header
+overflow_add-header t c =
+    let e : Some c.in_ok-header.header ≡ header_of c.loop-rest.rest.now = sym c.in_ok-header.was ∙ c.next_header.ensures in
+    omega (arith, header_inside c.loop-rest.rest.now e, c.loop-rest.invariant.1)
 
-pub overflow_add-e : goal.overflow_add-e
-overflow_add-e t c = omega (arith, place_inside c.args.s.now c.loop-at.at (known c.in-Whole.is c.next_header.ensures c.after.ensures) c.loop-at.invariant.0)
-
-pub slice_bounds-walk-end : goal.slice_bounds-walk-end
-slice_bounds-walk-end t c = omega (arith, place_inside c.args.s.now c.loop-at.at (known c.in-Whole.is c.next_header.ensures c.after.ensures) c.loop-at.invariant.0)
-
-pub walk-inner-requires : goal.walk-inner-requires
-walk-inner-requires t c = (omega arith, tt)
-
-pub returns-then-not-inner : goal.returns-then-not-inner
-returns-then-not-inner t c =
-    sym (c.loop-at.invariant.1 ∙ walk_broken c.args.s.now _ _ _ c.loop-at-test.true c.if-depth-eq0.false
-    (known c.in-Whole.is c.next_header.ensures c.after.ensures) (nested_fails _ _ c.if-nested.true c.walk-inner.ensures (not-true _ c.if-not-inner.true)))
-
-pub loop-at-smaller : goal.loop-at-smaller
-loop-at-smaller t c =
-    omega (
-      arith,
-      header_start (drop c.loop-at.at c.args.s.now) (known c.in-Whole.is c.next_header.ensures c.after.ensures),
-      place_inside c.args.s.now c.loop-at.at (known c.in-Whole.is c.next_header.ensures c.after.ensures) c.loop-at.invariant.0,
-    )
-
-pub loop-at-preserved : goal.loop-at-preserved
-loop-at-preserved t c =
-    let e = (known c.in-Whole.is c.next_header.ensures c.after.ensures) in (
-      place_inside c.args.s.now c.loop-at.at e c.loop-at.invariant.0,
-      c.loop-at.invariant.1 ∙ rw c.note-aids.ensures (walk_past c.args.s.now _ _ _ c.loop-at-test.true c.if-depth-eq0.false e
-          (elim c.if-nested.branch [
-            | then-nested+else-not-inner w ↦ nested_passes _ _ w.if-nested.true w.walk-inner.ensures (not-false _ w.if-not-inner.false)
-            | else-nested w ↦ plain_passes _ _ w.if-nested.false
-          ])),
-    )
+pub returns-in_err-walk : goal.returns-in_err-walk
+returns-in_err-walk t c =
+    c.from_residual-in_err-walk.ensures
+    ∙ sym (c.loop-rest.invariant.0 ∙ walk_broken _ _ _ (grind arith) c.if-depth-eq0.false (sym c.in_ok-header.was ∙ c.next_header.ensures)
+    (nested_fails _ _ c.if-header.true (c.walk.ensures ∙ ap (walked _ Absent) c.part.ensures) c.in_err-walk.was))
 
 pub returns : goal.returns
-returns t c = sym (c.loop-at.invariant.1 ∙ walk_end c.args.s.now _ _ c.loop-at.at (omega arith))
+returns t c = sym (c.loop-rest.invariant.0 ∙ walk_end _ _ _ (grind arith))
+
+pub loop-rest-smaller : goal.loop-rest-smaller
+loop-rest-smaller t c =
+    let e : Some c.in_ok-header.header ≡ header_of c.loop-rest.rest.now = sym c.in_ok-header.was ∙ c.next_header.ensures in
+    omega (arith, ap length c.after-rest.ensures, length-drop (c.in_ok-header.header.start + c.in_ok-header.header.len) c.loop-rest.rest.now, header_inside c.loop-rest.rest.now e, header_start c.loop-rest.rest.now e)
+
+pub loop-rest-preserved : goal.loop-rest-preserved
+loop-rest-preserved t c =
+    let e : Some c.in_ok-header.header ≡ header_of c.loop-rest.rest.now = sym c.in_ok-header.was ∙ c.next_header.ensures in (
+      c.loop-rest.invariant.0 ∙ rw (c.with-aids.ensures, c.after-rest.ensures) (walk_past _ _ _ (grind arith) c.if-depth-eq0.false e
+          (elim c.if-header.branch [
+            | then-header+in_ok-walk w ↦ nested_passes _ _ w.if-header.true (w.walk.ensures ∙ ap (walked _ Absent) w.part.ensures) w.in_ok-walk.was
+            | else-header w ↦ plain_passes _ _ w.if-header.false
+          ])),
+      omega (arith, ap length c.after-rest.ensures, length-drop (c.in_ok-header.header.start + c.in_ok-header.header.len) c.loop-rest.rest.now, c.loop-rest.invariant.1),
+    )

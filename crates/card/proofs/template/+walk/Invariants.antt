@@ -1,16 +1,17 @@
--- `card::template::walk`: the measure is the depth left; the loop's invariant, that from place `at` on, with the 4Fs
--- noted so far, the walk finds what it finds in the whole. Assumes nothing.
+-- `card::template::walk`: the measure is the depth left; the loop's invariant, that the walk over the rest, with the 4Fs
+-- noted so far, finds what the walk over the whole finds. Assumes nothing.
 use mathlib.Core.Path.{◌≡◌}
-use Prim.Native.Nat.{◌-◌, ◌≤◌}
-use lib.ListN.{length, drop}
+use Prim.Native.Nat.{◌≤◌}
+use lib.ListN.{length}
+use Rattle.card.specs.declared.template.Aids.TheVariants.{Absent}
 use Rattle.card.specs.TemplateCode.{walked}
 use Rattle.card.proofs.template.+walk.Given as goal
 
 abbrev pub decreases-walk : goal.decreases-walk
 decreases-walk l = l.depth
 
-abbrev pub invariant-loop-at : goal.invariant-loop-at
-invariant-loop-at l = (l.at ≤ length l.s) × (walked l.depth 0 l.s ≡ walked l.depth l.aids (drop l.at l.s))
+abbrev pub invariant-loop-rest : goal.invariant-loop-rest
+invariant-loop-rest l = (walked l.depth Absent l.s ≡ walked l.depth l.aids l.rest) × (length l.rest ≤ length l.s)
 
-abbrev pub decreases-loop-at : goal.decreases-loop-at
-decreases-loop-at l = length l.s - l.at
+abbrev pub decreases-loop-rest : goal.decreases-loop-rest
+decreases-loop-rest l = length l.rest

@@ -1,31 +1,45 @@
 -- `card::template::template` meets its contract: the TLV 61 is there, and its value is walked, or it is not. Assumes
 -- nothing.
-use mathlib.Core.Path.{◌≡◌, sym, ap, ◌∙◌}
-use mathlib.Core.Bool.{cond, ◌&&◌}
-use lib.Dec.{eqb}
-use Rattle.card.specs.Tlv.{only_of}
-use Rattle.card.specs.Template.{template_tag, good_from, template_of}
+use mathlib.Core.Path.{◌≡◌, refl, sym, ap, ◌∙◌}
+use mathlib.Core.Bool.{false, cond}
+use mathlib.Core.Logic.{◌⊎◌, ⊎_elim}
+use Rattle.card.specs.Template.{good_from, template_of, template_number}
+use Rattle.common.specs.Refusal.{number_in}
+use Rattle.card.specs.declared.template.MalformedTemplate.{MalformedTemplate}
 use Rattle.card.specs.TemplateCode.{walked}
-use Rattle.card.specs.declared.tlv.Header.TheVariants.{Whole}
-use Rattle.card.proofs.TemplateLaws.{good_is}
+use Rattle.std.specs.Prelude.{Some, Result, Ok, Err, IsErr}
+use Rattle.card.specs.declared.template.Aids.{Aids}
+use Rattle.card.specs.declared.template.Aids.TheVariants.{Absent, Others}
+use native.Mathlib.Omega.{arith}
+use Rattle.card.proofs.TlvLaws.{some_of, none_of}
+use Rattle.card.proofs.TemplateLaws.{found_one, good_is}
 use Rattle.card.proofs.template.template.Goals as goal
-use Rattle.card.proofs.template.template.Goals.{After-walk-found, In-Whole}
+use Rattle.card.proofs.template.template.Goals.{After-walk}
 
--- the TLV of the arm
-whole_is : (c : goal.In-Whole) → Whole c.in-Whole.tag c.in-Whole.nested c.in-Whole.start c.in-Whole.len ≡ only_of template_tag c.args.s.now
-whole_is c = sym c.in-Whole.is ∙ c.only.ensures
+-- a decline is the papers' number
+bad : (r : Result Unit MalformedTemplate) → IsErr r → number_in template_number r ≡ 19
+bad (Ok a) h = grind arith
+bad (Err e) h = refl
 
--- after the walk its two findings decide
-decided : (c : goal.After-walk-found) → template_of c.args.s.now ≡ cond (c.walk-found.result.whole && eqb c.walk-found.result.aids 1) 0 19
+-- after the walk what it found decides
+decided : (c : goal.After-walk) → template_of c.args.s.now ≡ cond (found_one c.walk.result) 0 19
 unfolding template_of good_from
-decided c = rw (← (sym c.in-Whole.is ∙ c.only.ensures), good_is _ (c.walk-found.ensures ∙ ap (walked _ 0) c.part.ensures))
+decided c = rw (← (some_of _ _ (sym c.ok_or.ensures.value ∙ c.in_ok-header.was) ∙ c.only.ensures), good_is _ (c.walk.ensures ∙ ap (walked _ Absent) c.part.ensures))
 
-pub returns-then-found : goal.returns-then-found
-returns-then-found c = rw (decided (goal.at.returns-then-found c).After-walk-found, c.if-found.true)
+-- others than just one are refused
+refused : {n : Aids} → (n ≡ Absent) ⊎ (n ≡ Others) → found_one (Some n) ≡ false
+refused e = ⊎_elim (λ k. rw k) (λ k. rw k) e
 
-pub returns-else-found : goal.returns-else-found
-returns-else-found c = rw (decided (goal.at.returns-else-found c).After-walk-found, c.if-found.false)
+pub returns-in-JustOne : goal.returns-in-JustOne
+returns-in-JustOne c = sym (decided (goal.at.returns-in-JustOne c).After-walk ∙ rw (sym (some_of _ _ (sym c.ok_or-2.ensures.value ∙ c.in_ok-aids.was)), c.in-JustOne.is))
 
-pub returns-in-Malformed : goal.returns-in-Malformed
+pub returns-in-Absent : goal.returns-in-Absent
+returns-in-Absent c = sym (decided (goal.at.returns-in-Absent c).After-walk ∙ rw (sym (some_of _ _ (sym c.ok_or-2.ensures.value ∙ c.in_ok-aids.was)), refused c.in-Absent.is))
+
+pub returns-in_err-aids : goal.returns-in_err-aids
+returns-in_err-aids c =
+    bad _ c.from_residual-in_err-aids.ensures.0 ∙ sym (decided (goal.at.returns-in_err-aids c).After-walk ∙ rw (none_of _ _ (sym c.ok_or-2.ensures.value ∙ c.in_err-aids.was)))
+
+pub returns-in_err-header : goal.returns-in_err-header
 unfolding template_of good_from
-returns-in-Malformed c = rw (← sym c.in-Malformed.is ∙ c.only.ensures)
+returns-in_err-header c = rw (sym c.only.ensures ∙ none_of _ _ (sym c.ok_or.ensures.value ∙ c.in_err-header.was)) (bad _ c.from_residual.ensures.0)

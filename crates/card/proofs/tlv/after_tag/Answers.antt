@@ -7,7 +7,7 @@ use native.Mathlib.Omega.{arith}
 use borrow.Author.Tests.{eq-eqb, ne_eqb, lt-ltb, le-ltb}
 use lib.ListN.{get_or}
 use Rattle.card.specs.Tlv.{length_size, length_of, ending_of, after_tag}
-use Rattle.card.specs.declared.tlv.Header.TheVariants.{Malformed}
+use Rattle.std.specs.Prelude.{None}
 use Rattle.card.proofs.tlv.after_tag.Goals as goal
 
 -- the definition, form by form
@@ -25,18 +25,19 @@ module _ (s : List ℕ) (t tag : ℕ) (nested : Bool) {a : ℕ} (e : a ≡ get_o
   unfolding after_tag length_size length_of
   three h j k f g = simp (sym e, sym f, sym g, le-ltb a 0x80 h, ne_eqb a 0x81 j, eq-eqb a 0x82 k)
 
-  none : 0x80 ≤ a → (a ≡ 0x81 → ⊥) → (a ≡ 0x82 → ⊥) → Malformed ≡ after_tag s t tag nested
+  none : 0x80 ≤ a → (a ≡ 0x81 → ⊥) → (a ≡ 0x82 → ⊥) → None ≡ after_tag s t tag nested
   unfolding after_tag length_size
   none h j k = simp (sym e, le-ltb a 0x80 h, ne_eqb a 0x81 j, ne_eqb a 0x82 k)
 
-pub returns-then-a-lt128 : goal.returns-then-a-lt128
-returns-then-a-lt128 c = let short : c.byte-a.result < 0x80 = omega arith in c.ending.ensures ∙ one c.args.s.now c.args.t c.args.tag c.args.nested c.byte-a.ensures short
+pub returns-in-0-to-127 : goal.returns-in-0-to-127
+returns-in-0-to-127 c = c.ending-in-0-to-127.ensures ∙ rw c.from-in-0-to-127.ensures (one c.args.s.now c.args.t c.args.tag c.args.nested c.byte-a.ensures (omega arith))
 
-pub returns-then-a : goal.returns-then-a
-returns-then-a c = c.ending-then-a.ensures ∙ two _ _ _ _ c.byte-a.ensures c.if-a-lt128.false c.if-a.true c.byte-b.ensures
+pub returns-in-129 : goal.returns-in-129
+returns-in-129 c = c.ending.ensures ∙ rw c.from.ensures (two c.args.s.now c.args.t c.args.tag c.args.nested c.byte-a.ensures (omega arith) c.in-129.is c.byte.ensures)
 
-pub returns-then-a-2 : goal.returns-then-a-2
-returns-then-a-2 c = c.ending-then-a-2.ensures ∙ three _ _ _ _ c.byte-a.ensures c.if-a-lt128.false c.if-a.false c.if-a-2.true c.byte-b.ensures c.byte-c.ensures
+pub returns-in-130 : goal.returns-in-130
+returns-in-130 c =
+    c.ending-in-130.ensures ∙ rw (c.from-in-130.ensures, c.from_be_bytes.ensures) (three c.args.s.now c.args.t c.args.tag c.args.nested c.byte-a.ensures (omega arith) (λ k. omega arith) c.in-130.is c.byte-high.ensures c.byte-low.ensures)
 
-pub returns : goal.returns
-returns c = none _ _ _ _ c.byte-a.ensures c.if-a-lt128.false c.if-a.false c.if-a-2.false
+pub returns-in_default : goal.returns-in_default
+returns-in_default c = none _ _ _ _ c.byte-a.ensures (grind arith) (λ k. grind arith) (λ k. grind arith)

@@ -15,4 +15,4 @@ short s {a} {n} e f h k = simp (sym e, sym f, ne_eqb (a % 32) 31 h, lt-ltb n 0x8
 pub returns-then-n-lt128 : goal.returns-then-n-lt128
 returns-then-n-lt128 c =
     let low : c.byte-n.result < 0x80 = omega arith in
-    c.ending.ensures ∙ short _ c.byte-a.ensures c.byte-n.ensures c.if-a-ne31.true low
+    c.ending.ensures ∙ rw (c.from.ensures, c.from-then-n-lt128.ensures) (short c.args.s.now c.byte-a.ensures c.byte-n.ensures c.if-a-ne31.true low)

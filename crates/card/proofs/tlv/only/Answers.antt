@@ -5,31 +5,31 @@ use Prim.Native.Nat.{◌+◌}
 use native.Mathlib.Omega.{arith}
 use lib.Dec.{eqb}
 use lib.ListN.{length}
+use Rattle.std.specs.Prelude.{Some}
 use Rattle.card.specs.Tlv.{header_of, only_from, only_of}
-use Rattle.card.specs.declared.tlv.Header.TheVariants.{Whole}
 use Rattle.card.proofs.TlvLaws.{header_inside}
 use Rattle.card.proofs.tlv.only.Goals as goal
-use Rattle.card.proofs.tlv.only.Goals.{In-Whole}
+use Rattle.card.proofs.tlv.only.Goals.{In_ok-header}
 
--- the header of the arm, and the definition at it
-whole_is : (c : goal.In-Whole) → Whole c.in-Whole.tag c.in-Whole.nested c.in-Whole.start c.in-Whole.len ≡ header_of c.args.s.now
-whole_is c = sym c.in-Whole.is ∙ c.header_of.ensures
+-- the header that is there
+header_is : (c : goal.In_ok-header) → Some c.in_ok-header.header ≡ header_of c.args.s.now
+header_is c = sym c.in_ok-header.was ∙ c.header_of.ensures
 
-pub overflow_add-start : goal.overflow_add-start
-overflow_add-start c = omega (arith, header_inside c.args.s.now (whole_is (goal.at.overflow_add-start c).In-Whole))
+pub overflow_add-header : goal.overflow_add-header
+overflow_add-header c = omega (arith, header_inside c.args.s.now (header_is (goal.at.overflow_add-header c).In_ok-header))
 
 -- the two tests
-abbrev passes : goal.In-Whole → Bool
-passes c = eqb c.in-Whole.tag c.args.wanted && eqb (c.in-Whole.start + c.in-Whole.len) (length c.args.s.now)
+abbrev passes : goal.In_ok-header → Bool
+passes c = eqb c.in_ok-header.header.tag c.args.wanted && eqb (c.in_ok-header.header.start + c.in_ok-header.header.len) (length c.args.s.now)
 
-pub returns-then-tag-wanted : goal.returns-then-tag-wanted
+pub returns-then-header-wanted : goal.returns-then-header-wanted
 unfolding only_of only_from
-returns-then-tag-wanted c = let both : passes (goal.at.returns-then-tag-wanted c).In-Whole ≡ true = c.if-tag-wanted.true in rw (← whole_is (goal.at.returns-then-tag-wanted c).In-Whole, both)
+returns-then-header-wanted c = let both : passes (goal.at.returns-then-header-wanted c).In_ok-header ≡ true = c.if-header-wanted.true in rw (← header_is (goal.at.returns-then-header-wanted c).In_ok-header, both)
 
-pub returns-else-tag-wanted : goal.returns-else-tag-wanted
+pub returns-else-header-wanted : goal.returns-else-header-wanted
 unfolding only_of only_from
-returns-else-tag-wanted c = let not_both : passes (goal.at.returns-else-tag-wanted c).In-Whole ≡ false = c.if-tag-wanted.false in rw (← whole_is (goal.at.returns-else-tag-wanted c).In-Whole, not_both)
+returns-else-header-wanted c = let not_both : passes (goal.at.returns-else-header-wanted c).In_ok-header ≡ false = c.if-header-wanted.false in rw (← header_is (goal.at.returns-else-header-wanted c).In_ok-header, not_both)
 
-pub returns-in-Malformed : goal.returns-in-Malformed
+pub returns-in_err-header : goal.returns-in_err-header
 unfolding only_of only_from
-returns-in-Malformed c = rw (← sym c.in-Malformed.is ∙ c.header_of.ensures)
+returns-in_err-header c = c.from_residual.ensures ∙ rw (← sym c.in_err-header.was ∙ c.header_of.ensures)

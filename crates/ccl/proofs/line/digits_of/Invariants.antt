@@ -7,6 +7,3 @@ use Rattle.ccl.proofs.line.digits_of.Given as goal
 
 abbrev pub invariant-loop-k : goal.invariant-loop-k
 invariant-loop-k l = (l.k ≤ 16) × (l.rest ≡ l.initial.rest / 10 ^ (16 - l.k)) × (length l.d ≡ 16) × ((i : ℕ) → l.k ≤ i → i < 16 → get_or l.d i 0 ≡ digit_of 16 l.initial.rest i)
-
-abbrev pub decreases-loop-k : goal.decreases-loop-k
-decreases-loop-k l = l.k

@@ -1,58 +1,29 @@
--- `ccl::list::good_lines` meets its contract: a turn counts one more good line. Assumes nothing.
-use mathlib.Core.Path.{◌≡◌, refl, sym, ◌∙◌}
-use Prim.Native.Nat.{◌/◌}
+-- `ccl::list::good_lines` meets its contract: the chain counts the good lines. Assumes nothing.
+use mathlib.Core.Path.{◌≡◌, ap, ◌∙◌}
 use native.Mathlib.Omega.{arith}
-use borrow.Author.Rules.{rules}
-use lib.ListN.{length}
-use Rattle.common.specs.Lists.{list_of, passing}
-use Rattle.common.specs.Decimal.{digit_of}
-use Rattle.ccl.specs.Line.{good_line, line_of, card_text}
-use Rattle.ccl.specs.ListText.{line_at, good_lines}
-use Rattle.common.proofs.PassingLaws.{passing_more, passing_stop}
-use Rattle.ccl.proofs.LinesLaws.{part_line}
+use borrow.Author.Tests.{tests}
+use Rattle.std.proofs.Common.{rules}
+use Rattle.std.proofs.lemmas.Iterator.Consumers.{count_from_yields_List}
+use Rattle.std.proofs.lemmas.Iterator.Search.{YieldsList-from_take_while}
+use Rattle.std.specs.Slice.Iter.{chunks_exact_rest, chunks_exact_size}
+use Rattle.std.specs.Iterator.Adapters.{take_while_source}
+use Rattle.std.proofs.lemmas.List.Folds.{length-prefix_len}
+use Rattle.ccl.specs.Line.{good_line}
+use Rattle.ccl.specs.ListText.{good_lines}
+use Rattle.ccl.proofs.LinesLaws.{whole_lines, chunks_lines, good_front, good_most}
 use Rattle.ccl.proofs.list.good_lines.Goals as goal
-use Rattle.ccl.proofs.list.good_lines.Goals.{After-between}
+use Rattle.ccl.proofs.list.good_lines.Goals.{After-count}
 
-pub loop-n-init : goal.loop-n-init
-unfolding passing
-loop-n-init c = (search rules, refl)
-
--- the two strings are the lines of the lowest and the highest key
-good_is : (c : goal.After-between)
-    → good_line (line_at c.args.text.now c.loop-n.n) ≡ c.between.result
-unfolding good_line line_of card_text list_of digit_of
-good_is c = rw (← part_line c.args.text.now c.loop-n.n) (sym c.between.ensures)
-
-pub returns-then-not-between : goal.returns-then-not-between
-unfolding good_lines
-returns-then-not-between c = record { value = sym (passing_stop (λ i. good_line (line_at c.args.text.now i)) c.loop-n.n (length c.args.text.now / 32) (omega arith) c.loop-n.invariant.1 (good_is (goal.at.returns-then-not-between c).After-between ∙ c.if-not-between.true)); inside = omega arith }
-
-pub loop-n-preserved : goal.loop-n-preserved
-loop-n-preserved c =
-    (omega arith, passing_more (λ i. good_line (line_at c.args.text.now i)) c.loop-n.n c.loop-n.invariant.1 (good_is (goal.at.loop-n-preserved c).After-between ∙ c.if-not-between.false))
+-- the chain counts the lines before the first that is not good
+counted : (c : goal.After-count) → c.count.result ≡ good_lines c.args.text.now
+counted c =
+    let text = c.args.text.now in
+    let e = c.take_while.ensures.source in
+    let lines = chunks_lines (take_while_source c.take_while.result) text (ap chunks_exact_rest e ∙ c.chunks_exact.ensures.rest) (ap chunks_exact_size e ∙ c.chunks_exact.ensures.size) in
+    count_from_yields_List c.take_while.result c.count.result c.count.ensures.ran (YieldsList-from_take_while _ good_line lines c.take_while.ensures.closure c.take_while.ensures.done (λ x b q k. search (rules, tests)))
+    ∙ length-prefix_len good_line (whole_lines text) ∙ good_front text
 
 pub returns : goal.returns
-unfolding good_lines
-returns c = let e : c.loop-n.n ≡ length c.args.text.now / 32 = omega arith in
-    record { value = rw (← e) (sym c.loop-n.invariant.1); inside = omega arith }
-
-pub overflow_mul-at : goal.overflow_mul-at
-overflow_mul-at c = omega arith
-
-pub overflow_add-end : goal.overflow_add-end
-overflow_add-end c = omega arith
-
-pub slice_bounds-between-count : goal.slice_bounds-between-count
-slice_bounds-between-count c = omega arith
-
-pub slice_bounds-between-start : goal.slice_bounds-between-start
-slice_bounds-between-start c = omega arith
-
-pub slice_bounds-between-end-in-loop-n-2 : goal.slice_bounds-between-end-in-loop-n-2
-slice_bounds-between-end-in-loop-n-2 c = omega arith
-
-pub overflow_add-n : goal.overflow_add-n
-overflow_add-n c = omega arith
-
-pub loop-n-smaller : goal.loop-n-smaller
-loop-n-smaller c = omega arith
+returns c =
+    let e = counted (goal.at.returns c).After-count in
+    record { value = e; inside = omega (arith, e, good_most c.args.text.now) }

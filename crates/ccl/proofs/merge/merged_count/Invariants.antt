@@ -1,12 +1,12 @@
--- `ccl::merge::merged_count` meets its contract: a turn uses the lower of the two next keys, and a key of both lists is
--- used of both. Assumes nothing.
-use Prim.Native.Nat.{◌+◌, ◌-◌, ◌≤◌}
+-- `ccl::merge::merged_count` meets its contract: a turn counts a key, and what is left is left of both lists. Assumes nothing.
+use mathlib.Core.Path.{◌≡◌}
+use Prim.Native.Nat.{◌+◌}
 use lib.ListN.{length}
-use Rattle.ccl.proofs.MergeCodeLaws.{Merging}
+use Rattle.ccl.specs.Merge.{merged}
 use Rattle.ccl.proofs.merge.merged_count.Given as goal
 
-abbrev pub invariant-loop-i : goal.invariant-loop-i
-invariant-loop-i l = Merging l.a l.b l.i l.j (l.i + l.j - l.both) × (l.both ≤ l.i) × (l.both ≤ l.j)
+abbrev pub invariant-loop-n : goal.invariant-loop-n
+invariant-loop-n l = l.n + length (merged l.keys.a.now l.keys.b.now) ≡ length (merged l.a l.b)
 
-abbrev pub decreases-loop-i : goal.decreases-loop-i
-decreases-loop-i l = (length l.a + length l.b) - (l.i + l.j)
+abbrev pub decreases-loop-n : goal.decreases-loop-n
+decreases-loop-n l = length (merged l.keys.a.now l.keys.b.now)

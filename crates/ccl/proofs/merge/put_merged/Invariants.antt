@@ -1,14 +1,12 @@
--- `ccl::merge::put_merged` meets its contract: a turn stores the lower of the two next keys, and what is left follows.
--- Assumes nothing.
-use Prim.Native.Nat.{◌+◌, ◌-◌}
-use lib.ListN.{length, get_or}
+-- `ccl::merge::put_merged` meets its contract: a turn stores a key, and what is left is left of both lists. Assumes nothing.
+use mathlib.Core.Path.{◌≡◌}
+use lib.ListN.{length, get_or, drop}
 use Rattle.common.proofs.LoopLaws.{WrittenSoFar}
 use Rattle.ccl.specs.Merge.{merged}
-use Rattle.ccl.proofs.MergeCodeLaws.{Merging}
 use Rattle.ccl.proofs.merge.put_merged.Given as goal
 
-abbrev pub invariant-loop-i : goal.invariant-loop-i
-invariant-loop-i l = Merging l.a l.b l.i l.j l.k × WrittenSoFar l.initial.out 0 (length (merged l.a l.b)) (λ t. get_or (merged l.a l.b) t 0) l.k l.out
+abbrev pub invariant-loop-key : goal.invariant-loop-key
+invariant-loop-key l = WrittenSoFar l.initial.out 0 (length (merged l.a l.b)) (λ t. get_or (merged l.a l.b) t 0) l.n l.out × (drop l.n (merged l.a l.b) ≡ merged l.keys.a.now l.keys.b.now)
 
-abbrev pub decreases-loop-i : goal.decreases-loop-i
-decreases-loop-i l = length l.a + length l.b - l.k
+abbrev pub decreases-loop-key : goal.decreases-loop-key
+decreases-loop-key l = length (merged l.keys.a.now l.keys.b.now)

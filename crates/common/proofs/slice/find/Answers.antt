@@ -1,7 +1,7 @@
 -- `common::slice::find` meets its contract: no x stands in the blocks that are passed, and `position` looks through the
 -- rest. Assumes nothing.
-use Rattle.std.proofs.Common.{◌≡◌, refl, sym, ap, ◌∙◌, Bool, true, false, Option, Some, None, ℕ, ◌+◌, ◌-◌, ◌≤◌, ◌<◌, List, cond, length, take, drop, eqb, not, length-drop, rules, arith, tests}
-use native.Mathlib.Nat.{add-zero, le_refl}
+use Rattle.std.proofs.Common.{◌≡◌, refl, ◌∙◌, Bool, true, false, Option, Some, None, ℕ, ◌+◌, ◌-◌, ◌≤◌, ◌<◌, List, cond, length, take, drop, eqb, not, length-drop, rules, arith, tests}
+use native.Mathlib.Nat.{add-zero}
 use lib.Dec.{ltb}
 use lib.ListN.{drop_of_length-le}
 use lib.Seq.{take_all}
@@ -34,24 +34,25 @@ to_end : (s : List ℕ) (i : ℕ) → take (length s - i) (drop i s) ≡ drop i 
 to_end s i = take_all (length s - i) (drop i s) (omega (arith, length-drop i s))
 
 -- what `position` returns, by its two cases
-found : (n m k : ℕ) (r : Option ℕ) → r ≡ cond (ltb n m) (Some n) None → r ≡ Some k → (k ≡ n) × (n < m)
-found n m k r e h = (grind arith, grind arith)
+found : (n m k : ℕ) (r : Option ℕ) → r ≡ cond (ltb n m) (Some n) None → r ≡ Some k → k ≡ n
+found n m k r e h = grind arith
 
 missing : (n m : ℕ) (r : Option ℕ) → r ≡ cond (ltb n m) (Some n) None → r ≡ None → m ≤ n
 missing n m r e h = grind arith
 
-pub returns-then-s-from : goal.returns-then-s-from
-returns-then-s-from c = record { is = none c.args.x c.args.s.now c.args.from c.if-s-from.true; inside = (λ h. h) }
+pub returns-then-s-from-clause-is : goal.returns-then-s-from-clause-is
+returns-then-s-from-clause-is c = none c.args.x c.args.s.now c.args.from c.if-s-from.true
 
-pub returns-in-Some : goal.returns-in-Some
-returns-in-Some c =
-    let k = found _ _ c.in-Some.k _ (position_from_yields_List (λ b. eqb b c.args.x) _ _ c.position.result c.position.ensures.ran (YieldsList-from_slice (drop c.past_blocks-i.result c.args.s.now) (c.iter.ensures.rest ∙ to_end c.args.s.now c.past_blocks-i.result)) (λ x b q k. search (rules, tests))) c.in-Some.is in
-    let w : c.in-Some.k ≡ index_of c.args.x (drop c.past_blocks-i.result c.args.s.now) = k.0 ∙ sym (place_is c.args.x (drop c.past_blocks-i.result c.args.s.now)) in
-    let l : c.in-Some.k < length c.args.s.now - c.past_blocks-i.result = omega (arith, k.0, k.1, length-drop c.past_blocks-i.result c.args.s.now) in
-    record { is = ap (λ (n : ℕ). c.past_blocks-i.result + n) w ∙ sym c.past_blocks-i.ensures.is; inside = (λ h. omega arith) }
+pub returns-in-Some-clause-is : goal.returns-in-Some-clause-is
+returns-in-Some-clause-is c =
+    let rest = drop c.past_blocks-i.result c.args.s.now in
+    let all = c.iter.ensures.rest ∙ to_end c.args.s.now c.past_blocks-i.result in
+    let k = found _ _ c.in-Some.k _ (position_from_yields_List (λ b. eqb b c.args.x) _ _ c.position.result c.position.ensures.ran (YieldsList-from_slice rest all) (λ x b q k. search (rules, tests))) c.in-Some.is in
+    omega (arith, k, place_is c.args.x rest, c.past_blocks-i.ensures.is)
 
-pub returns-in-None : goal.returns-in-None
-returns-in-None c =
-    let k = missing _ _ _ (position_from_yields_List (λ b. eqb b c.args.x) _ _ c.position.result c.position.ensures.ran (YieldsList-from_slice (drop c.past_blocks-i.result c.args.s.now) (c.iter.ensures.rest ∙ to_end c.args.s.now c.past_blocks-i.result)) (λ x b q k. search (rules, tests))) c.in-None.is in
-    let w : index_of c.args.x (drop c.past_blocks-i.result c.args.s.now) ≡ length c.args.s.now - c.past_blocks-i.result = omega (arith, k, place_is c.args.x (drop c.past_blocks-i.result c.args.s.now), length-drop c.past_blocks-i.result c.args.s.now, prefix_len-le-length (λ b. not (eqb b c.args.x)) (drop c.past_blocks-i.result c.args.s.now)) in
-    record { is = omega (arith, w, c.past_blocks-i.ensures.is, c.past_blocks-i.ensures.inside); inside = (λ h. le_refl _) }
+pub returns-in-None-clause-is : goal.returns-in-None-clause-is
+returns-in-None-clause-is c =
+    let rest = drop c.past_blocks-i.result c.args.s.now in
+    let all = c.iter.ensures.rest ∙ to_end c.args.s.now c.past_blocks-i.result in
+    let k = missing _ _ _ (position_from_yields_List (λ b. eqb b c.args.x) _ _ c.position.result c.position.ensures.ran (YieldsList-from_slice rest all) (λ x b q k. search (rules, tests))) c.in-None.is in
+    omega (arith, k, place_is c.args.x rest, length-drop c.past_blocks-i.result c.args.s.now, c.past_blocks-i.ensures.is, c.past_blocks-i.ensures.inside, prefix_len-le-length (λ b. not (eqb b c.args.x)) rest)

@@ -1,4 +1,4 @@
--- `common::slice::past_blocks` meets its contract: a turn passes 32 bytes, none of which is x. Assumes nothing.
+-- `common::slice::past_blocks` meets its contract: a turn passes a block, none of whose bytes is x. Assumes nothing.
 use mathlib.Core.Path.{◌≡◌}
 use Prim.Native.Nat.{◌+◌, ◌-◌, ◌≤◌}
 use lib.ListN.{length, drop}

@@ -5,5 +5,5 @@ use lib.ListN.{drop}
 use Rattle.common.specs.Decimal.{spelled}
 use Rattle.gate_lines.proofs.line.date_in.Given as goal
 
-abbrev pub invariant-loop-j : goal.invariant-loop-j
-invariant-loop-j l = (l.j ≤ 8) × (l.n ≡ spelled l.j (drop 8 l.s))
+abbrev pub invariant-loop-x : goal.invariant-loop-x
+invariant-loop-x l = (l.x-index ≤ 8) × (l.n ≡ spelled l.x-index (drop 8 l.s))

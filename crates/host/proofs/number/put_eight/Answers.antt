@@ -1,16 +1,15 @@
--- `host::number::put_eight` meets its contract: the higher four bytes, then the lower. Assumes nothing.
+-- `host::number::put_eight` meets its contract: eight bytes stored at once. Assumes nothing.
 use borrow.Author.Rules.{rules}
-use mathlib.Core.Path.{sym, ap, ◌∙◌}
-use Prim.Native.Nat.{ℕ, ◌+◌, ◌/◌, ◌%◌}
+use mathlib.Core.Path.{◌≡◌, ap, ◌∙◌}
 use native.Mathlib.Omega.{arith}
+use lib.ListN.{length}
 use Rattle.common.specs.Lists.{over_places}
-use Rattle.host.specs.Image.{high_first}
-use Rattle.host.proofs.NumberLaws.{length_high, high_halves, over_on}
+use Rattle.common.proofs.StoreLaws.{store_fits}
+use Rattle.host.proofs.NumberLaws.{be_eight, length_high}
 use Rattle.host.proofs.number.put_eight.Goals as goal
 
 pub returns : goal.returns
-returns c = let long = length_high 4 (c.args.x / 4294967296) in record {
-  is = over_on c.args.out.now (high_first 4 (c.args.x / 4294967296)) (high_first 4 (c.args.x % 4294967296)) c.put_four.ensures.is c.put_four-2.ensures.is (ap (λ (n : ℕ). c.args.at + n) (sym long)) (omega (arith, c.requires))
-      ∙ ap (over_places c.args.out.now c.args.at) (high_halves 4 4 c.args.x);
-  fits = search rules;
-}
+returns c =
+    let e = c.to_be_bytes.ensures ∙ be_eight c.args.x in
+    let eight : length c.to_be_bytes.result ≡ 8 = ap length e ∙ length_high 8 c.args.x in
+    record { is = c.store.ensures ∙ store_fits c.args.out.now c.to_be_bytes.result c.args.at (omega (arith, eight, c.requires)) ∙ ap (over_places c.args.out.now c.args.at) e; fits = search rules }

@@ -12,5 +12,5 @@ returns c =
     let s = load_of c.args.image.now in
     let e : given c.answer-answered.result ≡ answer_of s c.args.object.now c.args.answer.now c.args.cancelled.now = rw c.load.ensures at c.answer-answered.ensures.result_value in
     let w : c.answer-answered.new.object ≡ answer_buffer s c.args.object.now c.args.answer.now = rw c.load.ensures at c.answer-answered.ensures.object_after in
-    let k = kept c.args.image.now _ c.answer-answered.result e c.keep.ensures.number c.keep.ensures.is c.keep.ensures.again (answer_same s c.args.object.now c.args.answer.now c.args.cancelled.now) in
+    let k = kept c.args.image.now _ c.answer-answered.result.session e c.keep.ensures.number c.keep.ensures.is c.keep.ensures.again (answer_same s c.args.object.now c.args.answer.now c.args.cancelled.now) in
     record { number = k.0; is = k.1; buffer = w; for_every_list = answer_promise s c.args.object.now c.args.answer.now c.args.cancelled.now _ (λ i. search rules) k.2 w }

@@ -12,7 +12,7 @@ use Rattle.host.proofs.sessions.gate_stamp.Goals as goal
 pub returns : goal.returns
 returns c =
     let s = load_of c.args.image.now in
-    let e : given c.stamp-answered.result ≡ stamp_answer s (length c.args.out.now) = rw c.load.ensures at c.stamp-answered.ensures.result_value in
-    let w : c.stamp-answered.new.out ≡ stamp_buffer s c.args.out.now = rw c.load.ensures at c.stamp-answered.ensures.out_after in
+    let e : given c.stamp.result ≡ stamp_answer s (length c.args.out.now) = rw c.load.ensures at c.stamp.ensures.result_value in
+    let w : c.stamp.new.out ≡ stamp_buffer s c.args.out.now = rw c.load.ensures at c.stamp.ensures.out_after in
     let n = c.number.ensures ∙ ap (λ (x : ℕ × Session). x.0) e in
     record { number = n; is = w; for_every_list = stamp_promise s c.args.out.now _ (stamp_given s (length c.args.out.now) n) w }

@@ -10,5 +10,5 @@ pub returns : goal.returns
 returns c =
     let s = load_of c.args.image.now in
     let e : given c.verdict-answered.result ≡ verdict_of s c.args.kind c.args.yes c.args.fascn.now = rw c.load.ensures at c.verdict-answered.ensures.result_value in
-    let k = kept c.args.image.now _ c.verdict-answered.result e c.keep.ensures.number c.keep.ensures.is c.keep.ensures.again (verdict_same s c.args.kind c.args.yes c.args.fascn.now) in
+    let k = kept c.args.image.now _ c.verdict-answered.result.session e c.keep.ensures.number c.keep.ensures.is c.keep.ensures.again (verdict_same s c.args.kind c.args.yes c.args.fascn.now) in
     record { number = k.0; is = k.1; for_every_list = verdict_promise s c.args.kind c.args.yes c.args.fascn.now k.2 }

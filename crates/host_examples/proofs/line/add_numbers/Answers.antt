@@ -1,15 +1,14 @@
 -- `host_examples::line::add_numbers` meets its contract: a turn adds a number. Assumes nothing.
-use borrow.Author.Rules.{rules}
-use Rattle.append.proofs.AppendLaws.{adding_none, adding_more, adding_end}
+use Rattle.append.proofs.AppendLaws.{after, stays, adding_none, adding_more, adding_end}
 use Rattle.host_examples.specs.LineText.{numbers_part}
 use Rattle.host_examples.proofs.line.add_numbers.Goals as goal
 
-pub loop-i-init : goal.loop-i-init
-loop-i-init c = (search rules, adding_none c.add-end.ensures)
+pub loop-n-init : goal.loop-n-init
+loop-n-init c = adding_none
 
-pub loop-i-preserved : goal.loop-i-preserved
-loop-i-preserved c = (c.loop-i.invariant.0, adding_more c.loop-i.invariant.1 (search rules) c.add_number-end.ensures)
+pub loop-n-preserved : goal.loop-n-preserved
+loop-n-preserved c = adding_more c.loop-n.invariant c.loop-n-test.true c.add_number.ensures
 
 pub returns : goal.returns
 unfolding numbers_part
-returns c = adding_end c.add-end.ensures c.loop-i.invariant.1 (search rules)
+returns c = after _ _ _ _ c.add.ensures (adding_end c.loop-n.invariant c.loop-n-test.false (c.loop-n.invariant.fits_before (stays _ _ _ c.add.ensures)))

@@ -1,24 +1,19 @@
--- `session::tables::lowest_failed` meets its contract: a turn looks at the outcome of one check, the last first. Assumes nothing.
-use native.Mathlib.Omega.{arith}
-use mathlib.Core.Path.{◌≡◌, ◌∙◌}
-use mathlib.Core.List.{[]}
-use Prim.Native.Nat.{◌-◌}
-use lib.ListN.{drop, drop_of_length-le}
-use Rattle.session.proofs.TablesLaws.{lowest_here, lowest_later}
-use Rattle.session.specs.Tables.{checks, lowest_from}
+-- `session::tables::lowest_failed` meets its contract: the search finds the first outcome of a check that failed.
+-- Assumes nothing.
+use mathlib.Core.Path.{sym, ◌∙◌}
+use borrow.Author.Tests.{tests}
+use Rattle.std.proofs.Common.{rules}
+use Rattle.std.proofs.lemmas.Iterator.{YieldsList-from_slice}
+use Rattle.std.proofs.lemmas.Iterator.Search.{position_from_yields_List}
+use Rattle.session.proofs.TablesLaws.{fails, lowest_found, lowest_none}
 use Rattle.session.proofs.tables.lowest_failed.Goals as goal
-use Rattle.session.proofs.tables.lowest_failed.Goals.{then-o-i, else-o-i}
 
-pub loop-i-init : goal.loop-i-init
-unfolding lowest_from
-loop-i-init c = let none : drop checks c.args.o ≡ [] = drop_of_length-le c.args.o {i = checks} (omega arith) in (omega arith, omega arith, rw none)
+pub returns-in-Some : goal.returns-in-Some
+returns-in-Some c =
+    lowest_found c.args.o c.in-Some.i
+    (sym (position_from_yields_List fails _ _ _ c.position.ensures.ran (YieldsList-from_slice c.args.o cc) (λ x b q k. search (rules, tests))) ∙ c.in-Some.is)
 
-pub loop-i-preserved : goal.loop-i-preserved
-loop-i-preserved c =
-    elim c.if-o-i.branch [
-      | then-o-i w ↦ (omega arith, omega arith, w.lowest-is ∙ lowest_here c.args.o (c.loop-i.i - 1) c.loop-i.i (omega arith) (omega arith) w.if-o-i.true)
-      | else-o-i w ↦ (omega arith, omega arith, w.lowest-is ∙ lowest_later c.args.o (c.loop-i.i - 1) c.loop-i.i (omega arith) (omega arith) w.if-o-i.false c.loop-i.invariant.2)
-    ]
-
-pub returns : goal.returns
-returns c = let e : c.loop-i.i ≡ 0 = omega arith in rw e at c.loop-i.invariant.2
+pub returns-in-None : goal.returns-in-None
+returns-in-None c =
+    lowest_none c.args.o
+    (sym (position_from_yields_List fails _ _ _ c.position.ensures.ran (YieldsList-from_slice c.args.o cc) (λ x b q k. search (rules, tests))) ∙ c.in-None.is)

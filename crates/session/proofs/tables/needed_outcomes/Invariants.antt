@@ -4,4 +4,4 @@ use Rattle.session.specs.Tables.{checks, needed_at}
 use Rattle.session.proofs.tables.needed_outcomes.Given as goal
 
 abbrev pub invariant-loop-i : goal.invariant-loop-i
-invariant-loop-i l = WrittenSoFar l.initial.o 0 checks (needed_at l.mode) l.i l.o
+invariant-loop-i l = WrittenSoFar l.initial.outcome-items 0 checks (needed_at l.mode) l.i l.outcome-items

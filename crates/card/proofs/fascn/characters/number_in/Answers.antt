@@ -1,40 +1,39 @@
 -- `card::fascn::characters::number_in` meets its contract: a turn adds a digit to the base. Assumes nothing.
-use mathlib.Core.Path.{◌≡◌, refl, ap, ◌∙◌}
+use mathlib.Core.Path.{◌≡◌, refl}
 use mathlib.Core.List.{List}
-use Prim.Native.Nat.{ℕ, ◌+◌, ◌*◌, ◌%◌, ◌^◌, ◌<◌}
-use native.Mathlib.Nat.{mod-lt}
+use Prim.Native.Nat.{ℕ, ◌+◌, ◌*◌, ◌%◌, ◌^◌, ◌≤◌, ◌<◌}
+use native.Mathlib.Nat.{mod-lt, pow-le-pow_right}
 use native.Mathlib.Omega.{arith}
 use borrow.Author.Rules.{rules}
-use lib.ListN.{get_or}
+use lib.Dec.{lit<}
+use lib.ListN.{length, get_or}
+use lib.Pow.{pow_pos}
 use Rattle.common.specs.Lists.{number}
-use Rattle.common.proofs.NumberLaws.{number_more, number_room}
+use Rattle.common.proofs.NumberLaws.{number_more, number_room, pow-mul, one_shifted}
 use Rattle.card.proofs.fascn.characters.number_in.Goals as goal
 
--- the number with digit j is below base ^ n
-room : (s : List ℕ) (at n base j : ℕ) {w : ℕ} → 0 < base → j < n → w ≡ number base j (λ i. get_or s (at + i) 0 % base)
-    → w * base + get_or s (at + j) 0 % base < base ^ n
-room s at n base j pos h e = number_room base n (λ i. get_or s (at + i) 0 % base) pos (λ i. mod-lt _ pos) j h e
+-- the number with digit j fits 64 bits
+room : (s : List ℕ) (bits j : ℕ) {w : ℕ} → bits * length s < 64 → j < length s → w ≡ number (2 ^ bits) j (λ i. get_or s i 0 % 2 ^ bits)
+    → w * 2 ^ bits + get_or s j 0 % 2 ^ bits < 2 ^ 64
+room s bits j {w} r h e =
+    let p : 0 < 2 ^ bits = pow_pos bits in
+    let k : w * 2 ^ bits + get_or s j 0 % 2 ^ bits < 2 ^ (bits * length s) =
+    rw (pow-mul 2 bits (length s)) at (number_room (2 ^ bits) (length s) (λ i. get_or s i 0 % 2 ^ bits) p (λ i. mod-lt _ p) j h e) in
+    let l : 2 ^ (bits * length s) ≤ 2 ^ 63 = pow-le-pow_right {n = 2} (lit< tt) {i = bits * length s} {j = 63} (omega (arith, r)) in
+    omega (arith, k, l)
 
-pub loop-j-init : goal.loop-j-init
+pub loop-x-init : goal.loop-x-init
 unfolding number
-loop-j-init c = (omega arith, refl)
+loop-x-init c = refl
 
 pub overflow_mul-w : goal.overflow_mul-w
-unfolding number
-overflow_mul-w c = omega (arith, room c.args.s.now c.args.at c.args.n c.args.base c.loop-j.j c.requires.positive (omega arith) c.loop-j.invariant.1)
+overflow_mul-w c = rw (one_shifted c.args.bits (omega arith)) (omega (arith, room c.args.s.now c.args.bits c.loop-x.x-index c.requires.1 (search rules) c.loop-x.invariant))
 
 pub overflow_add-w : goal.overflow_add-w
-unfolding number
-overflow_add-w c = rw c.wide.ensures.0 (omega (arith, room c.args.s.now c.args.at c.args.n c.args.base c.loop-j.j c.requires.positive (omega arith) c.loop-j.invariant.1))
+overflow_add-w c =
+    rw (one_shifted c.args.bits (omega arith), c.from.ensures) (omega (arith, room c.args.s.now c.args.bits c.loop-x.x-index c.requires.1 (search rules) c.loop-x.invariant))
 
-pub loop-j-preserved : goal.loop-j-preserved
-unfolding number
-loop-j-preserved c = (
-  search rules,
-  ap (λ (x : ℕ). c.loop-j.w * c.args.base + x % c.args.base) c.wide.ensures.0
-      ∙ number_more c.args.base (λ i. get_or c.args.s.now (c.args.at + i) 0 % c.args.base) c.loop-j.j c.loop-j.invariant.1,
-)
-
-pub returns : goal.returns
-unfolding number
-returns c = let e : c.loop-j.j ≡ c.args.n = omega arith in rw e at c.loop-j.invariant.1
+pub loop-x-preserved : goal.loop-x-preserved
+loop-x-preserved c =
+    rw (one_shifted c.args.bits (omega arith), c.from.ensures)
+    (number_more (2 ^ c.args.bits) (λ i. get_or c.args.s.now i 0 % 2 ^ c.args.bits) c.loop-x.x-index c.loop-x.invariant)

@@ -1,13 +1,13 @@
 -- `ccl::cin::Cin::listed` meets its contract: a turn passes a line. Assumes nothing.
 use mathlib.Core.Path.{◌≡◌}
-use Prim.Native.Nat.{◌-◌, ◌≤◌}
-use lib.ListN.{length, drop}
+use Prim.Native.Nat.{◌+◌, ◌≤◌}
+use lib.ListN.{length}
 use Rattle.ccl.specs.Visual.{text_lines, lookup_of}
 use Rattle.ccl.specs.VisualCode.{pass_over}
 use Rattle.ccl.proofs.cin.Cin.listed.Given as goal
 
-abbrev pub invariant-loop-at : goal.invariant-loop-at
-invariant-loop-at l = (l.at ≤ length l.text) × (l.lines ≤ l.at) × (pass_over l.wanted l.lines l.met (text_lines (drop l.at l.text)) ≡ lookup_of l.wanted l.text)
+abbrev pub invariant-loop-rest : goal.invariant-loop-rest
+invariant-loop-rest l = (l.lines + length l.rest ≤ length l.text) × (pass_over l.self.0 l.lines l.met (text_lines l.rest) ≡ lookup_of l.self.0 l.text)
 
-abbrev pub decreases-loop-at : goal.decreases-loop-at
-decreases-loop-at l = length l.text - l.at
+abbrev pub decreases-loop-rest : goal.decreases-loop-rest
+decreases-loop-rest l = length l.rest

@@ -17,16 +17,16 @@ head_length s = refl
 pub returns : goal.returns
 unfolding stamp_in stamp_layout stamp_size
 returns c =
-    let h-long : length c.stamp_head-head.result ≡ head_size = ap length c.stamp_head-head.ensures ∙ head_length c.args.self in
-    let d-long = ap length c.four_bytes-date.ensures in
-    let e-long = ap length c.four_bytes-expiry.ensures in
+    let h-long : length c.stamp_head-head.result ≡ head_size = ap length c.stamp_head-head.ensures ∙ head_length c.args.self.now in
+    let d-long : length c.to_be_bytes-date.result ≡ 4 = ap length c.to_be_bytes-date.ensures in
+    let e-long : length c.to_be_bytes-expiry.result ≡ 4 = ap length c.to_be_bytes-expiry.ensures in
     let first = c.store.ensures ∙ store_first c.args.out.now c.stamp_head-head.result (omega (arith, c.requires, h-long)) in
-    let second = c.store-2.ensures ∙ store_next c.stamp_head-head.result c.args.self.outcomes c.args.out.now first (sym h-long) (omega (arith, c.requires, h-long, c.sized_outcomes.ensures)) in
-    let ho = length-append c.stamp_head-head.result c.args.self.outcomes in
-    let third = c.store-3.ensures ∙ store_next (c.stamp_head-head.result ++ c.args.self.outcomes) c.four_bytes-date.result c.args.out.now second (omega (arith, ho, h-long, c.sized_outcomes.ensures)) (omega (arith, c.requires, ho, h-long, c.sized_outcomes.ensures, d-long)) in
-    let hod = length-append (c.stamp_head-head.result ++ c.args.self.outcomes) c.four_bytes-date.result in
-    let fourth = c.store-4.ensures ∙ store_next ((c.stamp_head-head.result ++ c.args.self.outcomes) ++ c.four_bytes-date.result) c.args.self.card.fascn c.args.out.now third (omega (arith, hod, ho, h-long, c.sized_outcomes.ensures, d-long)) (omega (arith, c.requires, hod, ho, h-long, c.sized_outcomes.ensures, d-long, c.sized_fascn.ensures)) in
-    let hodf = length-append ((c.stamp_head-head.result ++ c.args.self.outcomes) ++ c.four_bytes-date.result) c.args.self.card.fascn in
-    rw (← c.stamp_head-head.ensures, ← c.four_bytes-date.ensures, ← c.four_bytes-expiry.ensures)
+    let second = c.store-2.ensures ∙ store_next c.stamp_head-head.result c.args.self.now.outcomes c.args.out.now first (sym h-long) (omega (arith, c.requires, h-long, c.sized.ensures)) in
+    let ho = length-append c.stamp_head-head.result c.args.self.now.outcomes in
+    let third = c.store-3.ensures ∙ store_next (c.stamp_head-head.result ++ c.args.self.now.outcomes) c.to_be_bytes-date.result c.args.out.now second (omega (arith, ho, h-long, c.sized.ensures)) (omega (arith, c.requires, ho, h-long, c.sized.ensures, d-long)) in
+    let hod = length-append (c.stamp_head-head.result ++ c.args.self.now.outcomes) c.to_be_bytes-date.result in
+    let fourth = c.store-4.ensures ∙ store_next ((c.stamp_head-head.result ++ c.args.self.now.outcomes) ++ c.to_be_bytes-date.result) c.args.self.now.card.fascn c.args.out.now third (omega (arith, hod, ho, h-long, c.sized.ensures, d-long)) (omega (arith, c.requires, hod, ho, h-long, c.sized.ensures, d-long, c.sized-2.ensures)) in
+    let hodf = length-append ((c.stamp_head-head.result ++ c.args.self.now.outcomes) ++ c.to_be_bytes-date.result) c.args.self.now.card.fascn in
+    rw (← c.stamp_head-head.ensures, ← c.to_be_bytes-date.ensures, ← c.to_be_bytes-expiry.ensures)
     (c.store-5.ensures
-    ∙ store_next (((c.stamp_head-head.result ++ c.args.self.outcomes) ++ c.four_bytes-date.result) ++ c.args.self.card.fascn) c.four_bytes-expiry.result c.args.out.now fourth (omega (arith, hodf, hod, ho, h-long, c.sized_outcomes.ensures, d-long, c.sized_fascn.ensures)) (omega (arith, hodf, hod, ho, h-long, c.sized_outcomes.ensures, d-long, c.sized_fascn.ensures, e-long, c.requires)))
+    ∙ store_next (((c.stamp_head-head.result ++ c.args.self.now.outcomes) ++ c.to_be_bytes-date.result) ++ c.args.self.now.card.fascn) c.to_be_bytes-expiry.result c.args.out.now fourth (omega (arith, hodf, hod, ho, h-long, c.sized.ensures, d-long, c.sized-2.ensures)) (omega (arith, hodf, hod, ho, h-long, c.sized.ensures, d-long, c.sized-2.ensures, e-long, c.requires)))

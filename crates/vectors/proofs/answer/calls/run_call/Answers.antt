@@ -23,16 +23,12 @@ returns-in-Verdict c = rw c.in-Verdict.is (record { text = c.run_verdict.ensures
 
 pub returns-in-Preview : goal.returns-in-Preview
 unfolding direct_text after_call buffer_after
-returns-in-Preview c = rw c.in-Preview.is (record { text = c.run_preview-end.ensures.text; host = refl; holds = c.run_preview-end.ensures.holds })
+returns-in-Preview c = rw c.in-Preview.is (record { text = c.run_preview.ensures.text; host = refl; holds = c.run_preview.ensures.holds })
 
 pub returns-in-Stamp : goal.returns-in-Stamp
 unfolding direct_text after_call buffer_after stamp_answer
-returns-in-Stamp c = rw c.in-Stamp.is (record { text = c.run_stamp-end.ensures.text; host = refl; holds = c.run_stamp-end.ensures.holds })
+returns-in-Stamp c = rw c.in-Stamp.is (record { text = c.run_stamp.ensures.text; host = refl; holds = c.run_stamp.ensures.holds })
 
 pub returns-in-Field : goal.returns-in-Field
 unfolding direct_text after_call buffer_after
-returns-in-Field c = rw c.in-Field.is (record { text = c.run_field-end.ensures; host = refl; holds = refl })
-
-pub returns-in-None : goal.returns-in-None
-unfolding direct_text after_call buffer_after
-returns-in-None c = rw c.in-None.is (record { text = c.add-end.ensures; host = refl; holds = refl })
+returns-in-Field c = rw c.in-Field.is (record { text = c.run_field.ensures; host = refl; holds = refl })

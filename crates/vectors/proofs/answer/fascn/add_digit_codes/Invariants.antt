@@ -6,4 +6,4 @@ use Rattle.vectors.specs.FascnText.{code_text}
 use Rattle.vectors.proofs.answer.fascn.add_digit_codes.Given as goal
 
 abbrev pub invariant-loop-x : goal.invariant-loop-x
-invariant-loop-x l = AddedSoFar l.initial.out l.initial.end 10 (λ j. code_text ((48 + j) ∷ []) j 1) l.x l.out l.end
+invariant-loop-x l = AddedSoFar 1310720 l.initial.out 10 (λ j. code_text ((48 + j) ∷ []) j 1) l.x l.out

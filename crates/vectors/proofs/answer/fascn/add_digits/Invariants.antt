@@ -5,4 +5,4 @@ use Rattle.vectors.specs.FascnText.{digit_text}
 use Rattle.vectors.proofs.answer.fascn.add_digits.Given as goal
 
 abbrev pub invariant-loop-k : goal.invariant-loop-k
-invariant-loop-k l = AddedSoFar l.initial.out l.initial.end 32 (λ j. digit_text j (get_or l.d j 0)) l.k l.out l.end
+invariant-loop-k l = AddedSoFar 1310720 l.initial.out 32 (λ j. digit_text j (get_or l.d j 0)) l.k l.out

@@ -1,15 +1,11 @@
 -- `vectors::answer::fascn::add_unpacked` meets its contract: six texts. Assumes nothing.
-use mathlib.Core.Path.{ap}
-use mathlib.Core.List.{List}
-use Prim.Native.Nat.{ℕ}
-use Rattle.append.proofs.AppendLaws.{◌then◌}
+use Rattle.append.proofs.AppendLaws.{after}
 use Rattle.vectors.specs.FascnText.{unpacked_text}
 use Rattle.vectors.proofs.answer.fascn.add_unpacked.Goals as goal
 
 pub returns : goal.returns
 unfolding unpacked_text
 returns c =
-    let again = ap (λ (x : ℕ × List ℕ). x.1) c.pack-p.ensures in
-    rw (← again, ← c.key_of-key.ensures)
-    (c.add_digits-digits.ensures then c.add-check.ensures then c.add_character-character.ensures
-    then c.add-keyed.ensures then c.add_decimal-number.ensures then c.add_again.ensures)
+    rw (← c.packed-again.ensures, ← c.key_of.ensures)
+    (after _ _ _ _ (after _ _ _ _ (after _ _ _ _ (after _ _ _ _ (after _ _ _ _ c.add_digits.ensures c.add.ensures) c.add_character.ensures) c.add-2.ensures) c.add_decimal.ensures)
+    c.add_again.ensures)
