@@ -62,11 +62,6 @@ added_all n x s h = take_all n (x ++ s) (rw length-append h)
 pub added_whole : (n : ℕ) (x s : List ℕ) → length (added n x s) < n → added n x s ≡ x ++ s
 added_whole n x s h = added_all n x s (omega (arith, h, length_added n x s))
 
--- a text in an empty buffer
-pub added_first : (n : ℕ) (s : List ℕ) → added n [] s ≡ take n s
-unfolding added
-added_first n s = refl
-
 -- for a chain of texts: `#![tactic(auto, using(append::proofs::AppendLaws::texts))]`
 pub ruleset texts = (added_on, append_assoc, append-nil)
 
@@ -128,12 +123,6 @@ adding_more {m} {n} {i} {a} {d} {e} {f} p h q =
 -- all n are added
 pub adding_end : {m n i : ℕ} {a d : List ℕ} {f : ℕ → List ℕ} → AddedSoFar m a n f i d → n ≤ i → added m d [] ≡ d → d ≡ added m a (texts_of n f)
 adding_end {n = n} {i} p h g = let e : i ≡ n = omega (arith, p.most) in sym g ∙ rw e at p.is
-
--- and one text more
-pub adding_end_then : {m n i : ℕ} {a d : List ℕ} {f : ℕ → List ℕ} (s : List ℕ) → AddedSoFar m a n f i d → n ≤ i → added m d s ≡ added m a (texts_of n f ++ s)
-adding_end_then {m} {n} {i} {a} {d} {f} s p h =
-    let e : i ≡ n = omega (arith, p.most) in
-    sym (added_on m d [] s) ∙ ap (λ (l : List ℕ). added m l s) (rw e at p.is) ∙ added_on m a (texts_of n f) s
 
 -- ---- numbers
 

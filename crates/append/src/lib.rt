@@ -43,6 +43,13 @@ impl<const N: usize> Text<N> {
         self.len
     }
 
+    // The text has no byte.
+    pub fn is_empty(&self) -> bool
+        ensures { result ≡ eqb (length self.now) 0 }
+    {
+        self.len == 0
+    }
+
     // Nothing more fits, so that the text may be cut.
     pub fn is_full(&self) -> bool
         ensures is { result ≡ eqb (length self.now) N }

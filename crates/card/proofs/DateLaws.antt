@@ -30,11 +30,6 @@ not_eight s h = rw (ne_eqb _ _ h)
 
 -- ---- an accepted date is a real one
 
--- a good date is accepted, with the number that it spells
-pub date_number : (s : List ℕ) → good_date s ≡ true → date_of s ≡ (0, spelled 8 s)
-unfolding date_of
-date_number s p = rw p
-
 -- its number is a real date
 good_real : (s : List ℕ) → good_date s ≡ true → real_date (spelled 8 s) ≡ true
 unfolding good_date

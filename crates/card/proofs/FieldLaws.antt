@@ -105,10 +105,6 @@ pub record Read (v : List ℕ) (base : ℕ) (rows : List Row) (i : ℕ) (parts :
   pub unread : drop i parts ≡ replicate (most_fields - i) empty
   pub so_far : let g = fields_from v base (drop i rows) at in fields_from v base rows 0 ≡ (g.0, take i parts ++ g.1)
 
--- no row is read
-pub read_none : (v : List ℕ) (base : ℕ) (rows : List Row) → Read v base rows 0 (replicate most_fields empty) 0
-read_none v base rows = record { placed = omega arith; full = refl; unread = refl; so_far = refl }
-
 -- one part less is left
 one_less : {v : List ℕ} {base : ℕ} {rows : List Row} {i : ℕ} {parts : List Part} {at : ℕ} → Read v base rows i parts at → i < most_fields
     → drop (i + 1) parts ≡ replicate (most_fields - (i + 1)) empty

@@ -56,15 +56,15 @@ pub fn real(n: u32) -> bool
 pub fn read(s: &[u8]) -> Result<u32, UnrealDate>
     ensures { date_answer result ≡ date_of s.now }
 {
-    if s.len() != DATE_DIGITS {
+    let Ok(digits) = <[u8; DATE_DIGITS]>::try_from(s) else {
         return Err(UnrealDate);
-    }
+    };
     // a loop and no fold: a fold's closure would have to be called with any sum, and some overflow
     let mut n: u32 = 0;
-    for digit in s {
+    for digit in &digits {
         n = n * 10 + u32::from(*digit % 16);
     }
-    if s.iter().all(|b| b.is_ascii_digit()) && real(n) {
+    if digits.iter().all(|b| b.is_ascii_digit()) && real(n) {
         Ok(n)
     } else {
         Err(UnrealDate)

@@ -73,10 +73,10 @@ impl Key {
 pub fn unpack(s: &[u8]) -> Result<[u8; DIGITS], UnpackError>
     ensures { unpacked result ≡ unpack_of s.now }
 {
-    if s.len() != FASCN_BYTES {
+    let Ok(bytes) = <[u8; FASCN_BYTES]>::try_from(s) else {
         return Err(UnpackError::WrongLength);
-    }
-    let c = characters::characters_in(s);
+    };
+    let c = characters::characters_in(&bytes);
     let v = characters::values_in(&c);
     let d = order::digits_in(&v);
     if !characters::all_odd(&c) {

@@ -233,7 +233,7 @@ fn next_field(v: &[u8], base: usize, row: Row, at: usize) -> Option<FieldRead>
         return absent;
     }
     let value = at + header.start;
-    let allowed = (row.least <= header.len) & (header.len <= row.most);
+    let allowed = (row.least..=row.most).contains(&header.len);
     allowed.then_some(FieldRead {
         part: Part {
             start: (base + value) as u32,
@@ -253,9 +253,7 @@ fn fields(v: &[u8], base: usize, kind: Kind) -> Result<[Part; FIELDS], Malformed
     let mut parts = [EMPTY; FIELDS];
     let mut at: usize = 0;
     for (i, row) in rows.iter().enumerate() {
-        let Some(field) = next_field(v, base, *row, at) else {
-            return Err(MalformedObject);
-        };
+        let field = next_field(v, base, *row, at).ok_or(MalformedObject)?;
         // by an index: a zip over `iter_mut` leaves a proof nothing of what it wrote
         parts[i] = field.part;
         at = field.next;

@@ -6,7 +6,7 @@ use mathlib.Core.List.{List, [], ◌∷◌, ◌++◌, append-nil, append_assoc}
 use Prim.Native.Nat.{ℕ, zero, suc, ◌+◌, ◌*◌, ◌/◌, ◌≤◌, ◌<◌}
 use native.Mathlib.Numerals.{add-one}
 use native.Mathlib.Omega.{arith}
-use lib.ListN.{length, get_or, take, drop, length-append, length-drop}
+use lib.ListN.{length, get_or, take, drop, length-append}
 use lib.Seq.{take-suc, take_at, drop_at, drop-drop, length-take-le}
 use Rattle.std.specs.List.{prefix_len}
 use Rattle.std.specs.Slice.Iter.{chunks_exact_rest, chunks_exact_size, chunks_exact_steps}
@@ -51,11 +51,6 @@ line_from (suc n) text (suc i) d h = line_from n (drop 32 text) i d (omega arith
 
 pub whole_line : (text : List ℕ) (i : ℕ) (d : List ℕ) → i < length text / 32 → get_or (whole_lines text) i d ≡ line_at text i
 whole_line text = line_from (length text / 32) text
-
--- each has as many bytes
-pub line_length : (text : List ℕ) (i : ℕ) → i < length text / 32 → length (line_at text i) ≡ 32
-unfolding line_at
-line_length text i h = length-take-le 32 (drop (32 * i) text) (omega (arith, length-drop (32 * i) text))
 
 -- a line more in front
 whole_more : (l w r : List ℕ) → l ≡ w ++ r → length w ≡ 32 → whole_lines l ≡ w ∷ whole_lines r

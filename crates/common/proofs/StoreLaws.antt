@@ -3,7 +3,7 @@
 use mathlib.Core.Path.{◌≡◌, sym, ap, ◌∙◌}
 use mathlib.Core.List.{List, ◌++◌, append-nil, append_assoc}
 use Prim.Native.Nat.{ℕ, ◌+◌, ◌-◌, ◌%◌, ◌≤◌, ◌<◌}
-use native.Mathlib.Nat.{le_of_eq, le_refl}
+use native.Mathlib.Nat.{le_refl}
 use native.Mathlib.Omega.{arith}
 use borrow.Author.Tests.{le-leb, lt-leb}
 use lib.ListN.{length, get_or, take, drop, length-drop, drop_of_length-le}
@@ -27,14 +27,6 @@ pub copied : (s d : List ℕ) → take (length s) s ++ drop (length s) d ≡ ove
 unfolding over_front
 copied s d = rw (take_all (length s) s (le_refl (length s)))
 
--- a part that runs to the end comes back with s over its front: s is stored from the part's first place on
-pub part_over : (d s : List ℕ) (at : ℕ) {l : List ℕ} → l ≡ over_front s (take (length d - at) (drop at d))
-    → take at d ++ (l ++ drop (length d - at) (drop at d)) ≡ over_places d at s
-unfolding over_front over_places
-part_over d s at e =
-    let whole : take (length d - at) (drop at d) ≡ drop at d = take_all (length d - at) (drop at d) (le_of_eq (length-drop at d)) in
-    rw (drop_of_length-le (drop at d) (le_of_eq (length-drop at d)), append-nil, e, whole, drop-drop) (sym (append_assoc (take at d) s (drop (at + length s) d)))
-
 -- a list over the front of one that is no longer is that list
 pub front_all : (s l : List ℕ) → length l ≤ length s → over_front s l ≡ s
 unfolding over_front
@@ -49,21 +41,13 @@ pub store_next : (p s d : List ℕ) {l : List ℕ} {n : ℕ} → l ≡ over_fron
 store_next p s d {l} {n} e k h =
     store_fits l s n (omega (arith, k, ap length e ∙ length_front p d (omega arith))) ∙ over_next p s d e k
 
--- ---- a run of one list copied over places of another, as by `d[at..at + n].copy_from_slice(&s[from..from + n])`
+-- ---- parts of a list: a run of one by its numbers, and a part written anew or only read
 
 -- a run of a list, by its numbers
 pub run_is : (s : List ℕ) (from n : ℕ) → from + n ≤ length s → take n (drop from s) ≡ list_of n (λ j. get_or s (from + j) 0)
 run_is s from n h =
     sym (list_of_is n (λ j. get_or s (from + j) 0) (take n (drop from s)) (length-take-le n (drop from s) (omega (arith, h, length-drop from s)))
     (λ i l. sym (get_or-take n (drop from s) i 0 l ∙ get_or-drop from s i 0)))
-
-pub run_copied : (d s : List ℕ) (at from n : ℕ) {l : List ℕ} → from + n ≤ length s → l ≡ take ((from + n) - from) (drop from s)
-    → put_mid at ((at + n) - at) d l ≡ written d at n (λ j. get_or s (from + j) 0)
-unfolding written
-run_copied d s at from n h e =
-    let k : (at + n) - at ≡ n = omega arith in
-    let m : (from + n) - from ≡ n = omega arith in
-    rw (e, k, m, run_is s from n h, drop-drop) (sym (append_assoc (take at d) (list_of n (λ j. get_or s (from + j) 0)) (drop (at + n) d)))
 
 -- a part of a list written anew, as by a call that is lent `&mut d[at..at + n]`
 pub part_written : (d : List ℕ) (at n : ℕ) (f : ℕ → ℕ) {l : List ℕ} → l ≡ list_of n f → put_mid at ((at + n) - at) d l ≡ written d at n f

@@ -56,13 +56,11 @@ fn past_blocks(s: &[u8], from: usize, x: u8) -> usize
     ensures is { from + index_of x (drop from s.now) ≡ result + index_of x (drop result s.now) }
     ensures inside { result ≤ length s.now }
 {
-    let mut i = from;
-    // by the place: over the rest, with `split_first_chunk`, finding byte 20 took 113 instructions where this takes 83,
-    // and byte 900 took 531 where this takes 468
-    while BLOCK <= s.len() - i && none_of(&s[i..i + BLOCK], x) {
-        i += BLOCK;
-    }
-    i
+    let passed = s[from..]
+        .chunks_exact(BLOCK)
+        .take_while(|block| none_of(block, x))
+        .count();
+    from + BLOCK * passed
 }
 
 // The place of the first x in s from place `from` on; the end where there is none, and `from` where that is past the

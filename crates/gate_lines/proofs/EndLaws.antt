@@ -13,11 +13,11 @@ use Rattle.gate_lines.specs.Gate.{end_text, stamp_text, refused_text}
 use Rattle.gate_lines.proofs.LineRunLaws.{refused_number, accepted_number}
 
 -- the stamp, where the call is accepted
-pub stamp_ends : (s : Session) (a : Answered) (out text : List ℕ) (x : Unit) → given a ≡ stamp_answer s 46 → out ≡ stamp_buffer s (replicate 46 0) → a.reply ≡ Ok x → text ≡ stamp_text out → text ≡ end_text s
+pub stamp_ends : (s : Session) (a : Answered Unit) (out text : List ℕ) (x : Unit) → given a ≡ stamp_answer s 46 → out ≡ stamp_buffer s (replicate 46 0) → a.reply ≡ Ok x → text ≡ stamp_text out → text ≡ end_text s
 unfolding end_text stamp_size
 stamp_ends s a out text x p q r t = rw (accepted_number a _ p r, ← q) t
 
 -- the number by which it is refused
-pub refused_ends : (s : Session) (a : Answered) (e : Refusal) (n : ℕ) (text : List ℕ) → given a ≡ stamp_answer s 46 → a.reply ≡ Err e → n ≡ refusal_number e → text ≡ refused_text n → text ≡ end_text s
+pub refused_ends : (s : Session) (a : Answered Unit) (e : Refusal) (text : List ℕ) → given a ≡ stamp_answer s 46 → a.reply ≡ Err e → text ≡ refused_text (refusal_number e) → text ≡ end_text s
 unfolding end_text stamp_size
-refused_ends s a e n text p r f t = rw (refused_number a _ p r, refusal_never_zero e, ← f) t
+refused_ends s a e text p r t = rw (refused_number a _ p r, refusal_never_zero e) t

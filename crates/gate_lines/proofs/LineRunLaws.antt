@@ -26,10 +26,10 @@ err_reply (Ok x) e h = absurd h
 err_reply (Err x) e h = ap (λ (y : LineError). reply_of (Err y)) h ∙ refused_reply e
 
 -- the number of what a call hands back
-pub refused_number : (a : Answered) (v : ℕ × Session) {e : Refusal} → given a ≡ v → a.reply ≡ Err e → v.0 ≡ refusal_number e
+pub refused_number : (a : Answered Unit) (v : ℕ × Session) {e : Refusal} → given a ≡ v → a.reply ≡ Err e → v.0 ≡ refusal_number e
 refused_number a v p q = ap (λ (x : ℕ × Session). x.0) (sym p) ∙ ap (number_in refusal_number) q
 
-pub accepted_number : (a : Answered) (v : ℕ × Session) {x : Unit} → given a ≡ v → a.reply ≡ Ok x → v.0 ≡ 0
+pub accepted_number : (a : Answered Unit) (v : ℕ × Session) {x : Unit} → given a ≡ v → a.reply ≡ Ok x → v.0 ≡ 0
 accepted_number a v p q = ap (λ (x : ℕ × Session). x.0) (sym p) ∙ ap (number_in refusal_number) q
 
 -- ---- each kind

@@ -119,7 +119,7 @@ impl Input {
         ensures prints { result ≡ last_text self.old }
         ensures for_every_input { LastPromise self.old result }
     {
-        if self.line.len() == 0 {
+        if self.line.is_empty() {
             return Text::new();
         }
         self.line_done()

@@ -1,5 +1,6 @@
 // What the program prints.
 ghost use Rattle.std.specs.Prelude.{◌≡◌};
+ghost use Rattle.session.specs.Operation.{refusal_number};
 ghost use Rattle.gate_lines.specs.Gate.{refused_text, reply_text, stamp_text, end_text};
 ghost use Rattle.gate_lines.specs.GateCode.{reply_of};
 ghost use Rattle.gate_lines.specs.Run.{EndPromise};
@@ -8,20 +9,21 @@ use crate::state::{Gate, LineError, TEXT};
 use append::Text;
 use common::refusal::Numbered;
 use session::figures::STAMP;
-use session::state::Session;
+use session::state::{Refusal, Session};
 
 // `(refused N)`.
-fn refused_text(n: u8) -> Text<TEXT>
-    ensures { result ≡ refused_text n }
+fn refused_text(refusal: Refusal) -> Text<TEXT>
+    ensures { result ≡ refused_text (refusal_number refusal) }
 {
     let mut text = Text::new();
     text.add(b"(refused ");
-    text.add_decimal(n as u64);
+    text.add_decimal(u64::from(refusal.number()));
     text.add(b")\n");
     text
 }
 
 // What a line prints.
+// No Display: each byte is stated (reply_text), and the clauses of fmt do not say that a write answers Ok.
 #[tactic(auto, unfolding(append::specs::Append::added, crate::specs::Gate::reply_text))]
 pub fn text(reply: Result<(), LineError>) -> Text<TEXT>
     ensures { result ≡ reply_text (reply_of reply) }
@@ -30,7 +32,7 @@ pub fn text(reply: Result<(), LineError>) -> Text<TEXT>
     match reply {
         Ok(()) => text.add(b"(ok)\n"),
         Err(LineError::Bad) => text.add(b"(bad)\n"),
-        Err(LineError::Refused(refusal)) => return refused_text(refusal.number()),
+        Err(LineError::Refused(refusal)) => return refused_text(refusal),
     }
     text
 }
@@ -47,7 +49,7 @@ fn stamp_text(stamp: &[u8; STAMP]) -> Text<TEXT>
 }
 
 // What is printed at the end: the session's stamp, or the number by which it is refused.
-#[tactic(auto, using(crate::proofs::EndLaws::stamp_ends, crate::proofs::EndLaws::refused_ends))]
+#[tactic(auto, using(crate::proofs::EndLaws::stamp_ends))]
 pub fn end_text(session: Session) -> Text<TEXT>
     ensures is { result ≡ end_text session }
     ensures for_every_list { EndPromise session result }
@@ -56,7 +58,7 @@ pub fn end_text(session: Session) -> Text<TEXT>
     let stamped = session.stamp(&mut stamp);
     match stamped.reply {
         Ok(()) => stamp_text(&stamp),
-        Err(refusal) => refused_text(refusal.number()),
+        Err(refusal) => refused_text(refusal),
     }
 }
 

@@ -78,7 +78,7 @@ impl Gate {
     }
 
     // The session that a call hands back is taken; its reply is the line's.
-    fn take(&mut self, answered: Answered) -> Result<(), LineError>
+    fn take(&mut self, answered: Answered<()>) -> Result<(), LineError>
         ensures state { self.new ≡ with_session self.old (given answered).1 }
         ensures reply { reply_of result ≡ reply_by (given answered).0 }
     {

@@ -8,17 +8,20 @@ use Prim.Native.Nat.{ℕ}
 use borrow.Author.Tests.{eqb-true, eqb-false}
 use lib.Dec.{eqb}
 use lib.ListN.{length}
+use Rattle.std.specs.Prelude.{Result, Ok, Err}
 use Rattle.card.specs.Object.{empty}
+use Rattle.common.specs.Refusal.{number_in, value_in}
 use Rattle.common.proofs.TestLaws.{clash}
 use Rattle.session.specs.Ranges.{ranged_values, values_in_range, in_range}
-use Rattle.session.specs.Operation.{dead, answer_refusal, answer_of, verdict_refusal, verdict_of, command_refusal, command_of, field_place, stamp_answer, preview_of}
+use Rattle.session.specs.Operation.{refusal_number, refusal_never_zero, dead, answer_refusal, answer_of, verdict_refusal, verdict_of, command_refusal, command_of, field_place, stamp_answer, preview_of}
 use Rattle.session.specs.Promise.{Bytes, History, finish}
+use Rattle.session.specs.declared.state.Refusal.{Refusal}
 use Rattle.session.specs.declared.state.Session.{Session}
 use Rattle.session.proofs.PreviewLaws.{two_calls_number}
 use Rattle.session.proofs.PromiseLaws.{promise}
 use Rattle.session.proofs.RefusedLaws.{command_dead, answer_dead, verdict_dead, stamp_dead, preview_dead}
 use Rattle.host.specs.Image.{image_size, is_image, load_of, save_of}
-use Rattle.host.specs.Call.{image_after, ImageOf}
+use Rattle.host.specs.Call.{image_after, where_number, ImageOf}
 use Rattle.host.proofs.ImageLaws.{load_dead, save_load}
 
 -- ---- a refused call hands the session back
@@ -44,7 +47,21 @@ command_refused s room {n} e h = by (eqb (command_refusal s room) 0) _ _ e
     by true m x e = absurd (h e)
     by false m x e = ap (λ (k : ℕ). (k, 0, s)) e
 
--- and a stamp call always does
+-- ---- what a command call leaves
+
+-- its count, and its number, its count and its session as one
+pub command_kept : (b : List ℕ) (room old : ℕ) (r : Result ℕ Refusal) (t : Session) {n m : ℕ} {c : List ℕ}
+    → ◌≡◌ {A = ℕ × ℕ × Session} (number_in refusal_number r, value_in 0 r, t) (command_of (load_of b) room) → n ≡ number_in refusal_number r → m ≡ value_in old r
+    → c ≡ image_after b (n, t) → (n ≡ 0 → load_of c ≡ t)
+    → (m ≡ where_number 0 n (command_of (load_of b) room).1 old) × ◌≡◌ {A = ℕ × ℕ × Session} (n, where_number 0 n m 0, load_of c) (command_of (load_of b) room)
+command_kept b room old (Ok v) t e f g left again = (rw f (g ∙ ap (λ (y : ℕ × ℕ × Session). y.1) e), rw (f, again f, g) e)
+command_kept b room old (Err d) t {n} {m} {c} e f g left again =
+    let not : eqb n 0 ≡ false = rw f (refusal_never_zero d) in
+    let same : c ≡ b = left ∙ rw not in
+    (rw not g, rw (not, same) (command_refused (load_of b) room (f ∙ ap (λ (y : ℕ × ℕ × Session). y.0) e) (eqb-false n 0 not)))
+
+-- ---- a stamp call hands the session back
+
 pub stamp_given : (s : Session) (room : ℕ) {n : ℕ} → n ≡ (stamp_answer s room).0 → (n, s) ≡ stamp_answer s room
 unfolding stamp_answer
 stamp_given s room e = ap (λ (k : ℕ). (k, s)) e

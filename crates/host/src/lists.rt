@@ -21,9 +21,9 @@ pub fn gate_list_read(text: &[u8], keys: &mut [u64], count: &mut usize, line: &m
 {
     match list::read(text, keys) {
         // the same arm stands in gate_cin_look_up, of another enum, whose number is another
-        Err(ReadError::Malformed(n)) => {
+        Err(e @ ReadError::Malformed(n)) => {
             *line = n;
-            ReadError::Malformed(n).number()
+            e.number()
         }
         answer => write_value(answer, count),
     }
@@ -54,9 +54,9 @@ pub fn gate_cin_look_up(typed: &[u8], text: &[u8], listed: &mut usize, line: &mu
     ensures names { line.new ≡ where_number malformed_visual result (typed_of typed.now text.now).1 line.old }
 {
     match visual::look_up(typed, text) {
-        Err(LookUpError::Malformed(n)) => {
+        Err(e @ LookUpError::Malformed(n)) => {
             *line = n;
-            LookUpError::Malformed(n).number()
+            e.number()
         }
         answer => write_value(answer.map(usize::from), listed),
     }

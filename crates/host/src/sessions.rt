@@ -8,12 +8,13 @@ ghost use Rattle.session.specs.Promise.{OpenPromise, CommandPromise, AnswerPromi
 ghost use Rattle.host.specs.Image.{load_of};
 ghost use Rattle.host.specs.Call.{image_after, where_number, place_given};
 
+use crate::answer::write_value;
 use crate::image;
 use crate::image::IMAGE;
 use common::refusal;
 use common::refusal::Numbered;
 use session::open;
-use session::state::{Refusal, Session};
+use session::state::Answered;
 
 // Where the value of a field lies in the object buffer. For C, which has no slices: gate_field.
 #[repr(C)]
@@ -24,14 +25,14 @@ pub struct FieldPlace {
 }
 
 // The session that a call hands back is saved where the call is accepted. What comes back is the reply's number.
-fn keep(session: Session, reply: Result<(), Refusal>, image: &mut [u8; IMAGE]) -> u8
-    ensures number { result ≡ number_in refusal_number reply }
-    ensures is { image.new ≡ image_after image.old (result, session) }
-    ensures again { result ≡ 0 → load_of image.new ≡ session }
+fn keep<T: Copy>(answered: Answered<T>, image: &mut [u8; IMAGE]) -> u8
+    ensures number { result ≡ number_in refusal_number answered.reply }
+    ensures is { image.new ≡ image_after image.old (result, answered.session) }
+    ensures again { result ≡ 0 → load_of image.new ≡ answered.session }
 {
-    match reply {
-        Ok(()) => {
-            image::save(session, image);
+    match answered.reply {
+        Ok(_) => {
+            image::save(answered.session, image);
             0
         }
         Err(e) => e.number(),
@@ -46,7 +47,7 @@ pub fn gate_open(image: &mut [u8; IMAGE], mode: u8, date: u32, aid: &[u8]) -> u8
     ensures for_every_list { OpenPromise mode date aid.now result (load_of image.new) }
 {
     let opened = open::open(mode, date, aid);
-    keep(opened.session, opened.reply, image)
+    keep(opened, image)
 }
 
 // Command: its bytes at the front of out, and their count.
@@ -58,14 +59,9 @@ pub fn gate_command(image: &mut [u8; IMAGE], out: &mut [u8], count: &mut usize) 
     ensures for_every_list { CommandPromise (load_of image.old) out.old out.new result (where_number 0 result count.new 0) (load_of image.new) }
 {
     let sent = image::load(image).command(out);
-    match sent.reply {
-        Ok(n) => {
-            image::save(sent.session, image);
-            *count = n;
-            0
-        }
-        Err(e) => e.number(),
-    }
+    // both give the reply's number
+    write_value(sent.reply, count);
+    keep(sent, image)
 }
 
 // Answer.
@@ -81,7 +77,7 @@ pub fn gate_answer(
     ensures for_every_list { AnswerPromise (load_of image.old) object.old answer.now cancelled.now object.new result (load_of image.new) }
 {
     let answered = image::load(image).answer(object, answer, cancelled);
-    keep(answered.session, answered.reply, image)
+    keep(answered, image)
 }
 
 // Verdict.
@@ -91,7 +87,7 @@ pub fn gate_verdict(image: &mut [u8; IMAGE], kind: u8, yes: u8, fascn: &[u8]) ->
     ensures for_every_list { VerdictPromise (load_of image.old) kind yes fascn.now result (load_of image.new) }
 {
     let answered = image::load(image).verdict(kind, yes, fascn);
-    keep(answered.session, answered.reply, image)
+    keep(answered, image)
 }
 
 // Preview: the stamp that this verdict and then a stamp call would write, to the first 46 bytes of out.

@@ -9,7 +9,7 @@ pub mod BufferLaws
 pub mod RuleLaws
 -- OutcomeLaws: outcomes
 pub mod OutcomeLaws
--- ChainLaws: what a chain of iterators over parts gives
+-- ChainLaws: what a chain of iterators over parts, or over outcomes with their places, gives
 pub mod ChainLaws
 -- TablesLaws: the tables, value by value, and as the code walks them
 pub mod TablesLaws

@@ -19,7 +19,6 @@ use Rattle.session.specs.declared.state.Next.{Next}
 use Rattle.session.specs.declared.state.Next.TheVariants.{Initial, GetResponse, InitialAgain, GetResponseAgain}
 use Rattle.session.specs.declared.state.Refusal.{Refusal}
 use Rattle.session.specs.declared.state.Answered.{Answered}
-use Rattle.session.specs.declared.state.Commanded.{Commanded}
 use Rattle.session.specs.declared.state.Refusal.TheVariants as refusals
 use Rattle.session.specs.declared.state.Cause.{Cause}
 use Rattle.session.specs.declared.state.Cause.TheVariants as causes
@@ -79,10 +78,10 @@ cause_never_zero causes.Fascn = refl
 cause_never_zero causes.Date = refl
 
 -- The number that a call gives, 0 where it is accepted, and the session that it leaves; of a command call also the count of bytes, 0 where it is refused.
-abbrev pub given : Answered → ℕ × Session
+abbrev pub given : Answered Unit → ℕ × Session
 given r = (number_in refusal_number r.reply, r.session)
 
-abbrev pub command_given : Commanded → ℕ × ℕ × Session
+abbrev pub command_given : Answered ℕ → ℕ × ℕ × Session
 command_given r = (number_in refusal_number r.reply, value_in 0 r.reply, r.session)
 
 abbrev pub with_session_progress : Session → SessionProgress → Session

@@ -88,7 +88,7 @@ impl Session {
     }
 
     // The answer's data is appended in the object buffer, and judged where it is the step's last.
-    pub fn answer(self, object: &mut [u8], answer: &[u8], cancelled: &[u64]) -> Answered
+    pub fn answer(self, object: &mut [u8], answer: &[u8], cancelled: &[u64]) -> Answered<()>
         ensures result_value { given result ≡ answer_of self object.old answer.now cancelled.now }
         ensures object_after { object.new ≡ answer_buffer self object.old answer.now }
         ensures for_every_list { AnswerPromise self object.old answer.now cancelled.now object.new (number_in refusal_number result.reply) result.session }
@@ -96,7 +96,7 @@ impl Session {
         match self.answer_refusal(object.len(), answer.len()) {
             Ok(()) => {
                 let (bytes, status) = answer.split_at(answer.len() - STATUS);
-                Answered::accepted(self.take_answer(object, bytes, status, cancelled))
+                Answered::accepted(self.take_answer(object, bytes, status, cancelled), ())
             }
             Err(refusal) => Answered::refused(self, refusal),
         }

@@ -7,7 +7,7 @@ ghost use Rattle.session.specs.Ranges.{in_range};
 ghost use Rattle.session.specs.Operation.{refusal_number, command_given, initial_in, command_in, progress_sending, with_session_progress, command_of, command_buffer};
 ghost use Rattle.session.specs.Promise.{CommandPromise};
 
-use crate::state::{Commanded, Next, Refusal, Session};
+use crate::state::{Answered, Next, Refusal, Session};
 use crate::{arrays, tables};
 use card::command;
 use card::command::{CommandError, FIRST_LE};
@@ -64,7 +64,7 @@ impl Session {
     }
 
     // The next command is written to the front of out, and is outstanding.
-    pub fn command(self, out: &mut [u8]) -> Commanded
+    pub fn command(self, out: &mut [u8]) -> Answered<usize>
         ensures result_value { command_given result ≡ command_of self (length out.old) }
         ensures out_after { out.new ≡ command_buffer self out.old }
         ensures for_every_list { CommandPromise self out.old out.new (number_in refusal_number result.reply) (value_in 0 result.reply) result.session }
@@ -73,15 +73,9 @@ impl Session {
             Ok(count) => {
                 let mut session = self;
                 session.progress.outstanding = true;
-                Commanded {
-                    session,
-                    reply: Ok(count),
-                }
+                Answered::accepted(session, count)
             }
-            Err(refusal) => Commanded {
-                session: self,
-                reply: Err(refusal),
-            },
+            Err(refusal) => Answered::refused(self, refusal),
         }
     }
 }

@@ -77,12 +77,12 @@ fn opened(mode: u8, date: u32, aid: &[u8]) -> Session
 }
 
 // A session freshly opened; the dead session where the opening is refused.
-pub fn open(mode: u8, date: u32, aid: &[u8]) -> Answered
+pub fn open(mode: u8, date: u32, aid: &[u8]) -> Answered<()>
     ensures result_value { given result ≡ open_of mode date aid.now }
     ensures for_every_list { OpenPromise mode date aid.now (number_in refusal_number result.reply) result.session }
 {
     match open_refusal(mode, date, aid) {
-        Ok(()) => Answered::accepted(opened(mode, date, aid)),
+        Ok(()) => Answered::accepted(opened(mode, date, aid), ()),
         Err(refusal) => Answered::refused(dead_session(), refusal),
     }
 }

@@ -74,7 +74,7 @@ impl Session {
     }
 
     // The stamp, written to the first 46 bytes of out. The session is handed back as it was.
-    pub fn stamp(self, out: &mut [u8]) -> Answered
+    pub fn stamp(self, out: &mut [u8]) -> Answered<()>
         ensures result_value { given result ≡ stamp_answer self (length out.old) }
         ensures out_after { out.new ≡ stamp_buffer self out.old }
         ensures for_every_list { StampPromise self out.old out.new (number_in refusal_number result.reply) result.session }
@@ -82,7 +82,7 @@ impl Session {
         match self.stamp_refusal(out.len()) {
             Ok(()) => {
                 self.write_stamp(out);
-                Answered::accepted(self)
+                Answered::accepted(self, ())
             }
             Err(refusal) => Answered::refused(self, refusal),
         }

@@ -1,9 +1,9 @@
 // The session's values, by groups, and why its calls are refused.
-ghost use Rattle.std.specs.Prelude.{◌≡◌};
+ghost use Rattle.std.specs.Prelude.{◌≡◌, Ok, Err};
 ghost use Rattle.card.specs.Command.{command_number};
 ghost use Rattle.session.specs.declared.state.Cause.TheVariants as causes;
 ghost use Rattle.session.specs.Tables.{is_response, is_sent_again};
-ghost use Rattle.session.specs.Operation.{given, refusal_number, refusal_never_zero, cause_number, cause_never_zero, next_of};
+ghost use Rattle.session.specs.Operation.{refusal_number, refusal_never_zero, cause_number, cause_never_zero, next_of};
 
 use crate::figures::CHECKS;
 use card::command::{AID_MOST, CommandError};
@@ -128,36 +128,29 @@ impl Numbered for Refusal {
     }
 }
 
-// A session handed back, and the answer. A refused call hands back the session as it was, and a refused opening the
-// dead one: "A session goes in by value and the new one is handed back", and so the calls take no `&mut self`.
+// A session handed back, and the answer: of a command call the count of bytes that it wrote, of the others no value. A
+// refused call hands back the session as it was, and a refused opening the dead one: "A session goes in by value and the
+// new one is handed back", and so the calls take no `&mut self`.
 #[derive(Clone, Copy, Debug, PartialEq, Eq)]
-pub struct Answered {
+pub struct Answered<T> {
     pub session: Session,
-    pub reply: Result<(), Refusal>,
+    pub reply: Result<T, Refusal>,
 }
 
-// The same of a command call, with the count of bytes that it wrote. One `Answered<T>` would serve both: it would
-// change the type in the views `given` and `command_given`, and the crates above that name the two.
-#[derive(Clone, Copy, Debug, PartialEq, Eq)]
-pub struct Commanded {
-    pub session: Session,
-    pub reply: Result<usize, Refusal>,
-}
-
-impl Answered {
-    // An accepted call gives this session.
-    pub(crate) fn accepted(session: Session) -> Answered
-        ensures { given result ≡ (0, session) }
+impl<T> Answered<T> {
+    // An accepted call gives this session and this value.
+    pub(crate) fn accepted(session: Session, value: T) -> Answered<T>
+        ensures { result ≡ record { session = session; reply = Ok value } }
     {
         Answered {
             session,
-            reply: Ok(()),
+            reply: Ok(value),
         }
     }
 
     // A refused call hands this session back.
-    pub(crate) fn refused(session: Session, refusal: Refusal) -> Answered
-        ensures { given result ≡ (refusal_number refusal, session) }
+    pub(crate) fn refused(session: Session, refusal: Refusal) -> Answered<T>
+        ensures { result ≡ record { session = session; reply = Err refusal } }
     {
         Answered {
             session,

@@ -132,13 +132,9 @@ pub(crate) fn cause_of(arose: u8, o: [u8; CHECKS]) -> u8
 fn all_passed(mode: u8, o: [u8; CHECKS]) -> bool
     ensures { result ≡ all_passed mode o }
 {
-    // a for and no `all`: a turn has the number of its check, by which the definition tests it
-    let mut ok = true;
-    for (i, outcome) in o.iter().enumerate() {
-        let needed = needs(mode, (i + 1) as u8);
-        ok &= !needed | (*outcome == Outcome::Passed as u8);
-    }
-    ok
+    o.iter().enumerate().all(|(i, outcome)| {
+        !needs(mode, (i + 1) as u8) | (*outcome == Outcome::Passed as u8)
+    })
 }
 
 // What a stamp says of the whole: rejected with a cause, granted where all is read and passed, else open.

@@ -65,12 +65,12 @@ impl Session {
     }
 
     // The host's verdict: kind 1 to 5, no (0) or yes (1), and the 25 bytes of the FASC-N that it is on.
-    pub fn verdict(self, kind: u8, yes: u8, fascn: &[u8]) -> Answered
+    pub fn verdict(self, kind: u8, yes: u8, fascn: &[u8]) -> Answered<()>
         ensures result_value { given result ≡ verdict_of self kind yes fascn.now }
         ensures for_every_list { VerdictPromise self kind yes fascn.now (number_in refusal_number result.reply) result.session }
     {
         match self.verdict_refusal(kind, yes, fascn) {
-            Ok(()) => Answered::accepted(self.take_verdict(kind, yes, fascn)),
+            Ok(()) => Answered::accepted(self.take_verdict(kind, yes, fascn), ()),
             Err(refusal) => Answered::refused(self, refusal),
         }
     }

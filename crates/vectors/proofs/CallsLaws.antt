@@ -2,19 +2,19 @@
 -- Assumes nothing.
 use mathlib.Core.Path.{◌≡◌, refl, ap, ap₂, ◌∙◌, sym}
 use mathlib.Core.Bool.{Bool, true, false, cond}
-use mathlib.Core.List.{List, []}
-use Prim.Native.Nat.{ℕ, ◌+◌, ◌≤◌, ◌<◌}
+use mathlib.Core.List.{List, [], ◌∷◌}
+use Prim.Native.Nat.{ℕ, zero, suc, ◌+◌, ◌-◌, ◌≤◌, ◌<◌}
 use native.Mathlib.Numerals.{add-one}
 use native.Mathlib.Omega.{arith}
 use lib.Dec.{eqb}
-use lib.ListN.{length, drop}
+use lib.ListN.{length, drop, length-drop}
 use Rattle.session.specs.Operation.{answer_refusal, answer_buffer}
 use Rattle.session.specs.Promise.{Host}
 use Rattle.session.specs.declared.state.Session.{Session}
 use Rattle.append.specs.Append.{added}
 use Rattle.append.proofs.AppendLaws.{added_inside, AddedSoFar, adding_none, adding_more}
 use Rattle.vectors.specs.CallsText.{call_head_size, argument_count, later_calls, first_text, after_first, calls_left, host_at}
-use Rattle.vectors.specs.Out.{text_size, with_text}
+use Rattle.vectors.specs.Out.{with_text}
 
 -- ---- hosts
 
@@ -62,3 +62,30 @@ one_call {b} {d} {e} {i} {n} {h} {u} {v} {s} {left} c l p q r t =
       left_is = rw add-one (t ∙ ap (λ (k : ℕ). drop (call_head_size + k) left) r ∙ ap later_calls c.left_is);
       fits = more.fits (omega arith);
     }
+
+-- so many calls are made, and a list is left with a byte for each turn to come
+pub record CallsMade (b : List ℕ) (h : Host) (s d : List ℕ) (now : Host) (left : List ℕ) : Type 0 where
+  pub turn : ℕ
+  pub so_far : CallsSoFar b h s turn d now left
+  pub room : turn + length left ≤ length s
+
+pub call_made : {b d e : List ℕ} {n : ℕ} {h u v : Host} {s left rest : List ℕ} → CallsMade b h s d u left → 0 < length left → e ≡ with_text d (first_text u left) → v ≡ after_first u left
+    → n ≡ argument_count left → rest ≡ drop (call_head_size + n) left → CallsMade b h s e v rest
+call_made {n = n} {left = left} c l p q r t =
+    record {
+      turn = c.turn + 1;
+      so_far = one_call c.so_far (omega (arith, l, c.room)) p q r t;
+      room = omega (arith, l, c.room, ap length t, length-drop (call_head_size + n) left);
+    }
+
+-- once no byte is left the turns to come make no call
+rest_made : (k : ℕ) {b d : List ℕ} {i : ℕ} {h u : Host} {s : List ℕ} → i + k ≡ length s → CallsSoFar b h s i d u [] → CallsSoFar b h s (length s) d u []
+unfolding first_text after_first
+rest_made zero {i = i} {s = s} e c = let z : i ≡ length s = omega (arith, e) in rw z at c
+rest_made (suc k) {i = i} {s = s} e c =
+    let z : (i + 1) + k ≡ length s = omega (arith, e) in
+    rest_made k z (one_call c (omega (arith, e)) (sym c.fits) refl refl refl)
+
+pub all_made : {b d : List ℕ} {h u : Host} {s left : List ℕ} → CallsMade b h s d u left → length left ≡ 0 → CallsSoFar b h s (length s) d u []
+all_made {s = s} {left = []} c e = rest_made (length s - c.turn) (omega (arith, c.room)) c.so_far
+all_made {left = x ∷ l} c e = absurd (omega (arith, e))

@@ -9,7 +9,8 @@ use crate::{Out, line};
 use common::slice;
 
 // The text of a block's lines, each of which ends by 0A, in place of what stands in the buffer. How many bytes of the
-// block are used: the rest is no whole line.
+// block are used: the rest is no whole line. By places and no split: the place after the last 0A is the answer, and what
+// follows it is no line yet.
 fn text_of_lines(out: &mut Out, block: &[u8]) -> usize
     ensures text { out.new ≡ with_text [] (lines_text [] block.now) }
     ensures rest { rest_of [] block.now ≡ drop result block.now }

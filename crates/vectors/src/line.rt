@@ -31,7 +31,7 @@ fn add_spelled(out: &mut Out, name: &[u8], digits: &[u8])
 fn add_call(out: &mut Out, name: &[u8], digits: &[u8])
     ensures { out.new ≡ with_text out.old (call_text name.now digits.now) }
 {
-    if hex::is_hex(digits) & (digits.len() <= 2 * BYTES) {
+    if hex::is_hex(digits) && digits.len() <= 2 * BYTES {
         add_spelled(out, name, digits);
     } else {
         refusal::add_no_vector(out);

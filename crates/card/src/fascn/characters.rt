@@ -2,7 +2,7 @@
 // A character is kept as one number, the bit sent first highest.
 ghost use Rattle.std.specs.Prelude.{◌≡◌, ◌+◌, ◌-◌, ◌*◌, ◌%◌, ◌/◌, ◌^◌, ◌≤◌, ◌<◌, length, get_or};
 ghost use Rattle.common.specs.Lists.{list_of, all, number};
-ghost use Rattle.card.specs.Fascn.{fascn_bytes, fascn_characters};
+ghost use Rattle.card.specs.Fascn.{fascn_characters};
 ghost use Rattle.card.specs.FascnCode.{odd_char, value_char, char_of, chars_in, bytes_of_chars};
 
 use crate::fascn::counts::{CHARACTERS, FASCN_BYTES};
@@ -33,8 +33,7 @@ fn put_digits(out: &mut [u8], w: u64, bits: usize)
 }
 
 // The 40 characters of 25 bytes.
-pub(crate) fn characters_in(s: &[u8]) -> [u8; CHARACTERS]
-    requires { length s.now ≡ fascn_bytes }
+pub(crate) fn characters_in(s: &[u8; FASCN_BYTES]) -> [u8; CHARACTERS]
     ensures { result ≡ chars_in s.now }
 {
     let mut c = [0u8; CHARACTERS];

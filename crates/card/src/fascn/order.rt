@@ -1,7 +1,7 @@
 // The order of a FASC-N: where its digits and marks stand among the 40 characters, and the check value.
 ghost use Rattle.std.specs.Prelude.{◌≡◌, get_or};
 ghost use Rattle.common.specs.Lists.{list_of, all};
-ghost use Rattle.card.specs.Fascn.{fascn_digits, digits_in, marks_in, decimal_at};
+ghost use Rattle.card.specs.Fascn.{start_value, separator_value, end_value, fascn_digits, digits_in, marks_in, decimal_at};
 ghost use Rattle.card.specs.FascnCode.{char_of, in_order, check_digits, chars_of};
 
 use crate::fascn::characters;
@@ -72,11 +72,11 @@ fn digit_characters(d: &[u8; DIGITS]) -> [u8; DIGITS]
 }
 
 // 40 characters in order: the digits' characters e, the marks' between them, and the check character last.
-fn in_order(e: &[u8; DIGITS], ss: u8, fs: u8, es: u8, check: u8) -> [u8; CHARACTERS]
-    ensures { result ≡ in_order e.now ss fs es check }
+fn in_order(e: &[u8; DIGITS], check: u8) -> [u8; CHARACTERS]
+    ensures { result ≡ in_order e.now (char_of start_value) (char_of separator_value) (char_of end_value) check }
 {
-    let mut c = [fs; CHARACTERS];
-    c[0] = ss;
+    let mut c = [characters::character_of(FS); CHARACTERS];
+    c[0] = characters::character_of(SS);
     // the runs of digits_in, the other way
     c[1..5].copy_from_slice(&e[..4]);
     c[6..10].copy_from_slice(&e[4..8]);
@@ -84,7 +84,7 @@ fn in_order(e: &[u8; DIGITS], ss: u8, fs: u8, es: u8, check: u8) -> [u8; CHARACT
     c[18] = e[14];
     c[20] = e[15];
     c[22..38].copy_from_slice(&e[16..]);
-    c[38] = es;
+    c[38] = characters::character_of(ES);
     c[CHECK_PLACE] = check;
     c
 }
@@ -95,11 +95,5 @@ pub(crate) fn characters_of(d: &[u8; DIGITS]) -> [u8; CHARACTERS]
 {
     let e = digit_characters(d);
     let check = characters::character_of(check_value(d));
-    in_order(
-        &e,
-        characters::character_of(SS),
-        characters::character_of(FS),
-        characters::character_of(ES),
-        check,
-    )
+    in_order(&e, check)
 }

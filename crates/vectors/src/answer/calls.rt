@@ -51,7 +51,7 @@ fn argument_count(s: &[u8]) -> usize
     ensures is { result ≡ argument_count s.now }
     ensures most { result ≤ 65535 }
 {
-    256 * slice::byte(s, 1) as usize + slice::byte(s, 2) as usize
+    usize::from(u16::from_be_bytes([slice::byte(s, 1), slice::byte(s, 2)]))
 }
 
 // The date of an opening with the arguments a.
@@ -71,8 +71,8 @@ fn room_in(call: DirectCall, a: &[u8]) -> usize
     ensures { result ≡ room_in call a.now }
 {
     match call {
-        DirectCall::Command | DirectCall::Stamp => slice::byte(a, 0) as usize,
-        DirectCall::Preview => slice::byte(a, 2) as usize,
+        DirectCall::Command | DirectCall::Stamp => usize::from(slice::byte(a, 0)),
+        DirectCall::Preview => usize::from(slice::byte(a, 2)),
         DirectCall::Open | DirectCall::Answer | DirectCall::Verdict | DirectCall::Field => 0,
     }
 }
@@ -82,7 +82,7 @@ fn add_numbered(out: &mut Out, word: &[u8], n: u8)
     ensures { out.new ≡ with_text out.old (numbered_text word.now n) }
 {
     out.add(word);
-    out.add_decimal(n as u64);
+    out.add_decimal(u64::from(n));
     out.add(b")");
 }
 
@@ -91,7 +91,7 @@ fn add_buffer(out: &mut Out, word: &[u8], n: u8, buffer: &[u8])
     ensures { out.new ≡ with_text out.old (buffer_text word.now n buffer.now) }
 {
     out.add(word);
-    out.add_decimal(n as u64);
+    out.add_decimal(u64::from(n));
     out.add(b" ");
     out.add_hex(buffer);
     out.add(b")");
@@ -102,7 +102,7 @@ fn add_counted(out: &mut Out, n: u8, count: usize, buffer: &[u8])
     ensures { out.new ≡ with_text out.old (counted_text n count buffer.now) }
 {
     out.add(b"(command ");
-    out.add_decimal(n as u64);
+    out.add_decimal(u64::from(n));
     out.add(b" ");
     out.add_decimal(count as u64);
     out.add(b" ");
@@ -244,16 +244,16 @@ fn run_first(out: &mut Out, session: Session, object: &mut [u8], s: &[u8]) -> Se
     run_call(out, call, session, object, a, buffer)
 }
 
-// The calls that s spells, one after another: no more than it has bytes.
+// The calls that s spells, one after another, until no byte is left.
 fn run_calls(out: &mut Out, start: Session, object: &mut [u8], s: &[u8]) -> Session
     ensures text { out.new ≡ with_text out.old (call_texts (record { session = start; object = object.old }) s.now) }
     ensures host { record { session = result; object = object.new } ≡ host_at (record { session = start; object = object.old }) s.now (length s.now) }
 {
-    // Nothing is added: the proof learns that what stands in the buffer fits it.
-    out.add(b"");
+    // so that the proof learns that what stands in the buffer fits it
+    prove!(out.len() <= crate::TEXT);
     let mut session = start;
     let mut left = s;
-    for _turn in 0..s.len() {
+    while !left.is_empty() {
         session = run_first(out, session, object, left);
         left = slice::after(left, HEAD + argument_count(left));
     }

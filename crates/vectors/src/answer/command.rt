@@ -29,10 +29,10 @@ fn add_written(out: &mut Out, n: usize, buffer: &[u8])
 }
 
 // The number of a refusal, and the buffer.
-fn add_unwritten(out: &mut Out, n: u8, buffer: &[u8])
-    ensures { out.new ≡ with_text out.old (unwritten_text n buffer.now) }
+fn add_unwritten<E: Numbered>(out: &mut Out, error: E, buffer: &[u8])
+    ensures { out.new ≡ with_text out.old (unwritten_text (E.number_of error) buffer.now) }
 {
-    refusal::add_refused(out, n);
+    refusal::add_refused(out, error);
     out.add(b", the buffer ");
     out.add_hex(buffer);
 }
@@ -43,7 +43,7 @@ fn add_answer(out: &mut Out, answer: Result<usize, CommandError>, buffer: &[u8])
 {
     match answer {
         Ok(n) => add_written(out, n, buffer),
-        Err(error) => add_unwritten(out, error.number(), buffer),
+        Err(error) => add_unwritten(out, error, buffer),
     }
 }
 

@@ -1,7 +1,7 @@
 // The texts of what unpack and pack say, and of the characters of document 003's figure 7.
 #![tactic(auto, using(append::proofs::AppendLaws::texts), unfolding(crate::specs::FascnText::digit_text, crate::specs::FascnText::again_text, crate::specs::FascnText::unpacked_text, crate::specs::FascnText::unpack_text, crate::specs::FascnText::pack_text, crate::specs::FascnText::code_text, crate::specs::FascnText::codes_text))]
 
-ghost use Rattle.std.specs.Prelude.{◌≡◌, ◌+◌, ◌*◌, ◌<◌, length};
+ghost use Rattle.std.specs.Prelude.{◌≡◌, ◌+◌, ◌*◌, ◌<◌};
 ghost use Rattle.card.specs.Fascn.{fascn_bytes, fascn_characters, fascn_digits, bit_at, pack_of};
 ghost use Rattle.vectors.specs.FascnText.{opens_field, digit_text, spaced_digits, character_text, again_text, unpacked_text, unpack_text, pack_text, code_text, digit_codes, codes_text};
 ghost use Rattle.vectors.specs.Out.{with_text};
@@ -9,7 +9,6 @@ ghost use Rattle.vectors.specs.Out.{with_text};
 use crate::{Out, refusal};
 use card::fascn;
 use card::fascn::counts;
-use common::refusal::Numbered;
 
 // Digit k of 32 is the first of a field, and not of the first field.
 fn opens_field(k: usize) -> bool
@@ -95,33 +94,23 @@ pub(crate) fn add_unpack(out: &mut Out, s: &[u8])
 {
     match fascn::unpack(s) {
         Ok(d) => add_unpacked(out, d),
-        Err(error) => refusal::add_refused(out, error.number()),
+        Err(error) => refusal::add_refused(out, error),
     }
-}
-
-// The 32 bytes of s.
-fn digits_in(s: &[u8]) -> [u8; counts::DIGITS]
-    requires { length s.now ≡ fascn_digits }
-    ensures { result ≡ s.now }
-{
-    let mut d = [0u8; counts::DIGITS];
-    d.copy_from_slice(s);
-    d
 }
 
 // What pack says of the 32 digits s.
 pub(crate) fn add_pack(out: &mut Out, s: &[u8])
     ensures { out.new ≡ with_text out.old (pack_text s.now) }
 {
-    if s.len() != counts::DIGITS {
+    let Ok(d) = <[u8; counts::DIGITS]>::try_from(s) else {
         return refusal::add_no_vector(out);
-    }
-    match fascn::pack(digits_in(s)) {
+    };
+    match fascn::pack(d) {
         Ok(bytes) => {
             out.add(b"packed ");
             out.add_hex(&bytes);
         }
-        Err(error) => refusal::add_refused(out, error.number()),
+        Err(error) => refusal::add_refused(out, error),
     }
 }
 

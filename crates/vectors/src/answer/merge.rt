@@ -10,7 +10,6 @@ ghost use Rattle.vectors.specs.Out.{with_text};
 use crate::{Out, refusal};
 use ccl::merge;
 use ccl::merge::MergeError;
-use common::refusal::Numbered;
 use common::slice;
 
 // The bytes of a key; `key_size` in the definitions.
@@ -51,14 +50,10 @@ fn keys_in(s: &[u8]) -> [u64; KEYS]
 fn is_merge(s: &[u8]) -> bool
     ensures { result ≡ is_merge s.now }
 {
-    let a = slice::byte(s, 0) as usize;
-    let b = slice::byte(s, 1) as usize;
+    let a = usize::from(slice::byte(s, 0));
+    let b = usize::from(slice::byte(s, 1));
     let keys = s.len() / KEY_BYTES;
-    (s.len() % KEY_BYTES == 2)
-        & (a <= KEYS)
-        & (b <= KEYS)
-        & (a + b <= keys)
-        & (keys <= a + b + KEYS)
+    s.len() % KEY_BYTES == 2 && a <= KEYS && b <= KEYS && a + b <= keys && keys <= a + b + KEYS
 }
 
 // A key, with a space in front. host_examples has the same for its own size of a text: a method of Text would serve
@@ -89,7 +84,7 @@ fn add_count(out: &mut Out, answer: Result<usize, MergeError>)
             out.add_decimal(n as u64);
             out.add(b" keys");
         }
-        Err(error) => refusal::add_refused(out, error.number()),
+        Err(error) => refusal::add_refused(out, error),
     }
 }
 
@@ -120,8 +115,8 @@ pub(crate) fn add_merge(out: &mut Out, s: &[u8])
     if !is_merge(s) {
         return refusal::add_no_vector(out);
     }
-    let n = slice::byte(s, 0) as usize;
-    let m = slice::byte(s, 1) as usize;
+    let n = usize::from(slice::byte(s, 0));
+    let m = usize::from(slice::byte(s, 1));
     let room = s.len() / KEY_BYTES - (n + m);
     add_lists(out, n, m, room, slice::after(s, 2));
 }

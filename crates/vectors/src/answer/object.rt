@@ -12,21 +12,18 @@ use crate::{Out, refusal};
 use card::object::{Kind, Part};
 use card::tlv::Header;
 use card::{date, object, template, tlv};
-use common::refusal::Numbered;
 
 // The bytes of a tag, high byte first, as many as it needs.
 fn add_tag(out: &mut Out, tag: usize)
     ensures { out.new ≡ with_text out.old (hex_of (tag_bytes tag)) }
 {
-    let high = (tag / 65536 % 256) as u8;
-    let middle = (tag / 256 % 256) as u8;
-    let low = (tag % 256) as u8;
+    let bytes = tag.to_be_bytes();
     if tag < 256 {
-        out.add_hex(&[low]);
+        out.add_hex(&bytes[7..]);
     } else if tag < 65536 {
-        out.add_hex(&[middle, low]);
+        out.add_hex(&bytes[6..]);
     } else {
-        out.add_hex(&[high, middle, low]);
+        out.add_hex(&bytes[5..]);
     }
 }
 
@@ -77,7 +74,7 @@ pub(crate) fn add_template(out: &mut Out, s: &[u8])
 {
     match template::template(s) {
         Ok(()) => out.add(b"good"),
-        Err(error) => refusal::add_cause(out, error.number()),
+        Err(error) => refusal::add_cause(out, error),
     }
 }
 
@@ -88,7 +85,7 @@ fn add_part(out: &mut Out, p: Part)
     if p.len == 0 {
         out.add(b" absent");
     } else {
-        add_place(out, p.start as u64, p.len as u64);
+        add_place(out, u64::from(p.start), u64::from(p.len));
     }
 }
 
@@ -132,7 +129,7 @@ pub(crate) fn add_object(out: &mut Out, kind: Kind, s: &[u8])
 {
     match object::parse(kind, s) {
         Ok(parts) => add_fields(out, kind, parts, shown_tags(kind)),
-        Err(error) => refusal::add_cause(out, error.number()),
+        Err(error) => refusal::add_cause(out, error),
     }
 }
 
@@ -141,8 +138,8 @@ pub(crate) fn add_date(out: &mut Out, s: &[u8])
     ensures { out.new ≡ with_text out.old (date_text s.now) }
 {
     match date::read(s) {
-        Ok(n) => out.add_decimal(n as u64),
-        Err(error) => refusal::add_cause(out, error.number()),
+        Ok(n) => out.add_decimal(u64::from(n)),
+        Err(error) => refusal::add_cause(out, error),
     }
 }
 
@@ -151,14 +148,14 @@ fn two_digits(x: u8) -> u32
     ensures is { result ≡ two_digits x }
     ensures most { result ≤ 165 }
 {
-    (x / 16 * 10 + x % 16) as u32
+    u32::from(x / 16 * 10 + x % 16)
 }
 
 // Whether all bytes are two decimal digits.
 fn all_decimal(s: &[u8]) -> bool
     ensures { result ≡ all (length s.now) (decimal_pair s.now) }
 {
-    s.iter().all(|x| (*x / 16 < 10) & (*x % 16 < 10))
+    s.iter().all(|x| *x / 16 < 10 && *x % 16 < 10)
 }
 
 // The number that the eight digits of four bytes spell. The four by name: a fold's closure would have to be called with
@@ -185,7 +182,7 @@ fn add_real_or_not(out: &mut Out, real: bool)
 pub(crate) fn add_real(out: &mut Out, s: &[u8])
     ensures { out.new ≡ with_text out.old (real_text s.now) }
 {
-    if (s.len() == 4) & all_decimal(s) {
+    if s.len() == 4 && all_decimal(s) {
         add_real_or_not(out, date::real(eight_digits(s)));
     } else {
         refusal::add_no_vector(out);

@@ -9,14 +9,13 @@ ghost use Rattle.vectors.specs.VisualText.{malformed_text, text_of_lookup, looke
 use crate::{Out, refusal};
 use ccl::visual;
 use ccl::visual::LookUpError;
-use common::refusal::Numbered;
 use common::slice;
 
 // The text of a refused look-up: its number, and beside refusal 24 the number of the malformed line.
 fn add_error(out: &mut Out, error: LookUpError)
     ensures { out.new ≡ with_text out.old (text_of_lookup (typed_answer (Err error))) }
 {
-    refusal::add_refused(out, error.number());
+    refusal::add_refused(out, error);
     if let LookUpError::Malformed(line) = error {
         out.add(b" line ");
         out.add_decimal(line as u64);

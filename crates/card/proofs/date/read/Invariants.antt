@@ -4,4 +4,4 @@ use Rattle.common.specs.Decimal.{spelled}
 use Rattle.card.proofs.date.read.Given as goal
 
 abbrev pub invariant-loop-digit : goal.invariant-loop-digit
-invariant-loop-digit l = l.n ≡ spelled l.digit-index l.s
+invariant-loop-digit l = l.n ≡ spelled l.digit-index l.digit-items

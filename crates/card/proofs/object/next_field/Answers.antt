@@ -1,5 +1,9 @@
 -- `card::object::next_field` meets its contract: what stands at the place picks the case. Assumes nothing.
 use mathlib.Core.Path.{◌≡◌, sym, ap, ◌∙◌}
+use mathlib.Core.Bool.{◌&&◌}
+use borrow.Author.Tests.{tests}
+use lib.Dec.{leb}
+use Rattle.std.proofs.Common.{rules}
 use Prim.Native.Nat.{◌+◌, ◌≤◌}
 use native.Mathlib.Omega.{arith}
 use lib.ListN.{length, drop}
@@ -9,7 +13,7 @@ use Rattle.card.specs.ObjectCode.{read_field}
 use Rattle.card.proofs.TlvLaws.{known, place_inside}
 use Rattle.card.proofs.FieldLaws.{field_none, field_other, field_found, field_unlike}
 use Rattle.card.proofs.object.next_field.Goals as goal
-use Rattle.card.proofs.object.next_field.Goals.{In-Some}
+use Rattle.card.proofs.object.next_field.Goals.{In-Some, After-contains-allowed}
 
 pub returns-then-byte-row : goal.returns-then-byte-row
 returns-then-byte-row c =
@@ -27,9 +31,14 @@ pub returns-then-header-from : goal.returns-then-header-from
 returns-then-header-from c =
     c.then_some-absent.ensures ∙ ap read_field (field_other c.args.v.now c.args.base c.args.row c.args.at (header_is (goal.at.returns-then-header-from c).In-Some) (λ e. c.if-header-from.true (e ∙ sym c.from.ensures)))
 
+-- the test of the length, in the definition's words
+allowed : (c : goal.After-contains-allowed) → c.contains-allowed.result ≡ leb c.args.row.least c.in-Some.header.len && leb c.in-Some.header.len c.args.row.most
+allowed c = search (rules, tests)
+
 pub returns : goal.returns
 returns c =
-    c.then_some.ensures ∙ ap read_field (field_found c.args.v.now c.args.base c.args.row c.args.at (header_is (goal.at.returns c).In-Some) (c.if-header-from.false ∙ c.from.ensures))
+    c.then_some.ensures
+    ∙ rw (allowed (goal.at.returns c).After-contains-allowed) (ap read_field (field_found c.args.v.now c.args.base c.args.row c.args.at (header_is (goal.at.returns c).In-Some) (c.if-header-from.false ∙ c.from.ensures)))
 
 -- the field ends within v
 field_fits : (c : goal.In-Some) → c.args.at + c.in-Some.header.start + c.in-Some.header.len ≤ length c.args.v.now

@@ -7,6 +7,10 @@ pub returns-in-Ok-clause-for_every_list : goal.returns-in-Ok-clause-for_every_li
 returns-in-Ok-clause-for_every_list c =
     end_promise _ _ (stamp_ends c.args.session c.stamp-stamped.result c.stamp-stamped.new.out _ _ c.stamp-stamped.ensures.result_value c.stamp-stamped.ensures.out_after c.in-Ok.is c.stamp_text.ensures)
 
+pub returns-in-Err-clause-is : goal.returns-in-Err-clause-is
+returns-in-Err-clause-is c =
+    refused_ends c.args.session c.stamp-stamped.result c.in-Err.refusal _ c.stamp-stamped.ensures.result_value c.in-Err.is c.refused_text.ensures
+
 pub returns-in-Err-clause-for_every_list : goal.returns-in-Err-clause-for_every_list
 returns-in-Err-clause-for_every_list c =
-    end_promise _ _ (refused_ends c.args.session c.stamp-stamped.result c.in-Err.refusal c.number.result _ c.stamp-stamped.ensures.result_value c.in-Err.is c.number.ensures c.refused_text.ensures)
+    end_promise _ _ (refused_ends c.args.session c.stamp-stamped.result c.in-Err.refusal _ c.stamp-stamped.ensures.result_value c.in-Err.is c.refused_text.ensures)

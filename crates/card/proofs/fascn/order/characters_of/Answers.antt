@@ -6,9 +6,6 @@ pub returns : goal.returns
 returns c =
     rw (
       c.in_order.ensures,
-      c.character_of-3.ensures,
-      c.character_of-2.ensures,
-      c.character_of.ensures,
       c.character_of-check.ensures,
       c.check_value.ensures,
       c.digit_characters-e.ensures,

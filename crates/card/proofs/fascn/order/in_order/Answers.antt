@@ -14,4 +14,4 @@ returns c =
     let run-2 : c.copy_from_slice-2.new.self ≡ slice_of 4 4 c.args.e.now = c.copy_from_slice-2.ensures.after ∙ run_is c.args.e.now 4 4 (omega (arith, c.told-e)) in
     let run-3 : c.copy_from_slice-3.new.self ≡ slice_of 8 6 c.args.e.now = c.copy_from_slice-3.ensures.after ∙ run_is c.args.e.now 8 6 (omega (arith, c.told-e)) in
     let run-4 : c.copy_from_slice-4.new.self ≡ slice_of 16 16 c.args.e.now = c.copy_from_slice-4.ensures.after ∙ run_is c.args.e.now 16 16 (omega (arith, c.told-e)) in
-    rw (run-4, run-3, run-2, run-1)
+    rw (run-4, run-3, run-2, run-1, c.character_of-c.ensures, c.character_of.ensures, c.character_of-2.ensures)

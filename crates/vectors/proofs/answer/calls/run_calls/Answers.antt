@@ -1,28 +1,36 @@
 -- `vectors::answer::calls::run_calls` meets its contract: a turn makes a call. Assumes nothing.
-use mathlib.Core.Path.{◌≡◌, ap, ◌∙◌}
+use mathlib.Core.Path.{ap, sym, ◌∙◌}
+use Prim.Native.Nat.{◌+◌}
 use native.Mathlib.Omega.{arith}
-use lib.ListN.{length}
-use Rattle.append.proofs.AppendLaws.{after, stays, adding_end}
-use Rattle.vectors.specs.CallsText.{call_texts, host_at}
-use Rattle.vectors.proofs.CallsLaws.{no_call, one_call, fitting}
+use native.Mathlib.Nat.{le_refl}
+use borrow.Author.Tests.{eqb-true, eqb-false}
+use lib.ListN.{length, length-drop}
+use Rattle.append.proofs.AppendLaws.{added_none, adding_end}
+use Rattle.vectors.specs.CallsText.{call_texts, call_head_size}
+use Rattle.vectors.proofs.CallsLaws.{no_call, call_made, all_made, fitting}
 use Rattle.vectors.proofs.answer.calls.run_calls.Goals as goal
 
-pub loop-turn-init : goal.loop-turn-init
-loop-turn-init c = no_call _ _ (stays _ _ _ c.add.ensures)
+pub loop-left-init : goal.loop-left-init
+loop-left-init c = record { turn = 0; so_far = no_call _ _ (sym (added_none _ _ (omega (arith, c.len.ensures.is, c.if-prove.false)))); room = omega arith }
 
 pub run_first-session-requires : goal.run_first-session-requires
-run_first-session-requires c = fitting c.loop-turn.invariant.fits
+run_first-session-requires c = fitting c.loop-left.invariant.so_far.fits
 
-pub loop-turn-preserved : goal.loop-turn-preserved
-loop-turn-preserved c =
-    one_call c.loop-turn.invariant c.loop-turn-test.true c.run_first-session.ensures.text c.run_first-session.ensures.host c.argument_count.ensures.is c.after-left.ensures
+pub loop-left-smaller : goal.loop-left-smaller
+loop-left-smaller c =
+    let some = eqb-false _ _ (sym c.is_empty.ensures ∙ c.loop-left-test.true) in
+    omega (arith, some, ap length c.after-left.ensures, length-drop (call_head_size + c.argument_count.result) c.loop-left.left.now)
+
+pub loop-left-preserved : goal.loop-left-preserved
+loop-left-preserved c =
+    let some = eqb-false _ _ (sym c.is_empty.ensures ∙ c.loop-left-test.true) in
+    call_made c.loop-left.invariant (omega (arith, some)) c.run_first-session.ensures.text c.run_first-session.ensures.host c.argument_count.ensures.is c.after-left.ensures
 
 pub returns : goal.returns
 unfolding call_texts
 returns c =
-    let so_far = c.loop-turn.invariant in
-    let e : c.loop-turn._turn ≡ length c.args.s.now = omega (arith, so_far.texts.most, c.loop-turn-test.false) in
+    let made = all_made c.loop-left.invariant (eqb-true _ _ (sym c.is_empty.ensures ∙ c.loop-left-test.false)) in
     record {
-      text = after _ _ _ _ c.add.ensures (adding_end so_far.texts c.loop-turn-test.false so_far.fits);
-      host = so_far.host_is ∙ ap (host_at _ _) e;
+      text = adding_end made.texts (le_refl _) made.fits;
+      host = made.host_is;
     }
