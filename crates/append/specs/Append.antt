@@ -1,6 +1,7 @@
--- Text in a buffer of fixed size, texts one after another, and numbers as text.
+-- Text in a buffer, one of fixed size or a lent one, texts one after another, and numbers as text.
 -- Assumes nothing.
-use Rattle.std.specs.Prelude.{cond, List, [], ◌∷◌, ◌++◌, ℕ, zero, suc, ◌+◌, ◌/◌, ◌%◌, ltb, take}
+use Rattle.std.specs.Prelude.{◌≡◌, cond, List, [], ◌∷◌, ◌++◌, ℕ, zero, suc, ◌+◌, ◌/◌, ◌%◌, ltb, length, take}
+use Rattle.common.specs.Lists.{over_front}
 
 -- ---- a buffer
 
@@ -8,6 +9,20 @@ use Rattle.std.specs.Prelude.{cond, List, [], ◌∷◌, ◌++◌, ℕ, zero, su
 -- n bytes, nothing was cut.
 unfoldable pub added : ℕ → List ℕ → List ℕ → List ℕ
 added n text s = take n (text ++ s)
+
+-- ---- a lent buffer
+
+-- The text s after the first `at` bytes of the buffer l, as far as l has room: how many bytes stand there then, and the
+-- whole buffer, every later byte of which is as it was. Where they are fewer than l has, nothing was cut.
+unfoldable pub added_at : List ℕ → ℕ → List ℕ → ℕ × List ℕ
+added_at l at s =
+    let text = take (length l) (take at l ++ s) in
+    (length text, over_front text l)
+
+-- What a function does that writes a text: it is lent the buffer before, answers with the count, and leaves the buffer
+-- after.
+pub record Added (before : List ℕ) (at : ℕ) (after : List ℕ) (count : ℕ) (text : List ℕ) : Type 0 where
+  pub is : (count, after) ≡ added_at before at text
 
 -- ---- texts one after another
 

@@ -1,15 +1,71 @@
-// Text in a buffer of fixed size: bytes, hexadecimal digits, and numbers in decimal, added one after another.
+// Text in a buffer: bytes, hexadecimal digits, and numbers in decimal, added one after another. The buffer is any slice
+// that is lent (`add`, `add_hex`, `add_decimal`), or a `Text`'s own, which counts its bytes itself.
 #![tactic(auto)]
 
-ghost use Rattle.std.specs.Prelude.{◌≡◌, List, [], ℕ, ◌≤◌, eqb, length, take};
+ghost use Rattle.std.specs.Prelude.{◌≡◌, List, [], ◌++◌, ℕ, ◌-◌, ◌≤◌, ◌<◌, eqb, length, take, drop, replicate};
 ghost use Rattle.text.specs.Hex.{hex_of};
-ghost use Rattle.append.specs.Append.{added, number_text};
+ghost use Rattle.append.specs.Append.{added, Added, number_text};
 
+use common::slice;
 use std::marker::Model;
 use text::hex;
 
-// At most `N` bytes of text. What is added past that is cut off; a text of fewer than `N` bytes is whole.
-#[derive(Drop)]
+// The bytes s, after the first `at` bytes of out, as far as there is room; how many bytes stand there then.
+pub fn add(out: &mut [u8], at: usize, s: &[u8]) -> usize
+    ensures { Added out.old at out.new result s.now }
+{
+    if out.len() <= at {
+        return out.len();
+    }
+    let n = s.len().min(out.len() - at);
+    slice::store(out, at, &s[..n]);
+    at + n
+}
+
+// The digits that spell the bytes s.
+pub fn add_hex(out: &mut [u8], at: usize, s: &[u8]) -> usize
+    ensures { Added out.old at out.new result (hex_of s.now) }
+{
+    if out.len() <= at {
+        return out.len();
+    }
+    let n = hex::write(s, &mut out[at..]);
+    at + n
+}
+
+// The most decimal digits of a number of 64 bits.
+const DECIMAL: usize = 20;
+
+// The digits of n in decimal, stored at the end of out; the place where they begin. Not by `write!`: the clauses of
+// `fmt::Write` say what was written where it answers Ok, and not that it does. A loop, and one text of all digits: a
+// digit after another took three times as long.
+fn put_decimal(n: u64, out: &mut [u8; DECIMAL]) -> usize
+    ensures inside { result < 20 }
+    ensures stores { drop result out.new ≡ number_text n }
+{
+    let mut k = DECIMAL - 1;
+    let mut rest = n;
+    while rest >= 10 {
+        out[k] = b'0' + (rest % 10) as u8;
+        rest /= 10;
+        k -= 1;
+    }
+    out[k] = b'0' + rest as u8;
+    k
+}
+
+// The number n in decimal.
+pub fn add_decimal(out: &mut [u8], at: usize, n: u64) -> usize
+    ensures { Added out.old at out.new result (number_text n) }
+{
+    let mut digits = [0u8; DECIMAL];
+    let k = put_decimal(n, &mut digits);
+    add(out, at, &digits[k..])
+}
+
+// At most `N` bytes of text. What is added past that is cut off; a text of fewer than `N` bytes is whole. Clone and Copy
+// alone: whoever compares or prints a text takes its bytes.
+#[derive(Clone, Copy)]
 pub struct Text<const N: usize> {
     bytes: [u8; N],
     len: usize,
@@ -21,7 +77,10 @@ impl<const N: usize> Model for Text<N> {
 
     ghost view = { λ t. take t.len t.bytes };
 
-    ghost invariant = { λ t. t.len ≤ N };
+    // zeros stand behind the text, so that it says what every byte of the buffer is: a `Copy` struct has to
+    ghost invariant = { λ t. (t.len ≤ N) × (t.bytes ≡ take t.len t.bytes ++ replicate (N - length (take t.len t.bytes)) 0) × (length (take t.len t.bytes) ≡ t.len) };
+
+    ghost inverse = { λ v. record { bytes = v ++ replicate (N - length v) 0; len = length v } };
 }
 
 impl<const N: usize> Text<N> {
@@ -69,6 +128,9 @@ impl<const N: usize> Text<N> {
     pub fn clear(&mut self)
         ensures { self.new ≡ [] }
     {
+        // the whole first: the borrow checker covers no part of an array whose length is a parameter
+        let all = &mut self.bytes[..];
+        all[0..self.len].fill(0);
         self.len = 0;
     }
 
@@ -76,33 +138,20 @@ impl<const N: usize> Text<N> {
     pub fn add(&mut self, s: &[u8])
         ensures { self.new ≡ added N self.old s.now }
     {
-        let n = s.len().min(N - self.len);
-        let end = self.len + n;
-        // the whole first: the borrow checker covers no part of an array whose length is a parameter
-        let all = &mut self.bytes[..];
-        all[self.len..end].copy_from_slice(&s[..n]);
-        self.len = end;
+        self.len = add(&mut self.bytes, self.len, s);
     }
 
     // The digits that spell the bytes s.
     pub fn add_hex(&mut self, s: &[u8])
         ensures { self.new ≡ added N self.old (hex_of s.now) }
     {
-        // the whole first, as in add
-        let all = &mut self.bytes[..];
-        let n = hex::write(s, &mut all[self.len..]);
-        self.len += n;
+        self.len = add_hex(&mut self.bytes, self.len, s);
     }
 
-    // The number n in decimal: all digits but the last, and the last.
-    // Not by `write!`: the clauses of `fmt::Write` say what was written where it answers Ok, and not that it does.
-    #[tactic(auto, using(crate::proofs::AppendLaws::added_on, crate::proofs::AppendLaws::number_small, crate::proofs::AppendLaws::number_large))]
+    // The number n in decimal.
     pub fn add_decimal(&mut self, n: u64)
         ensures { self.new ≡ added N self.old (number_text n) }
     {
-        if n >= 10 {
-            self.add_decimal(n / 10);
-        }
-        self.add(&[b'0' + (n % 10) as u8]);
+        self.len = add_decimal(&mut self.bytes, self.len, n);
     }
 }

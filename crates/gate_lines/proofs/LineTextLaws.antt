@@ -8,7 +8,7 @@ use native.Mathlib.Nat.{mod-eq_of_lt}
 use native.Mathlib.Omega.{arith}
 use borrow.Author.Tests.{eqb-true, ltb-true, le-leb, le-ltb}
 use lib.Dec.{eqb, ltb, lit<}
-use lib.ListN.{length, get_or, take, drop, length-drop, length-append}
+use lib.ListN.{length, get_or, take, drop, length-take, length-drop, length-append}
 use lib.Seq.{length-take-le, get_or-take, get_or-drop, take-append_seam, drop-append_seam, get_or_at}
 use Rattle.common.specs.Lists.{list_of, slice_of, all}
 use Rattle.common.proofs.ListsLaws.{all_at, all_of, list_of_is, list_of_ext}
@@ -53,6 +53,11 @@ filled lo hi s = list_of (length lo) (λ i. cond (eqb (get_or lo i 0) (get_or hi
 length-hex_from : (n : ℕ) (s : List ℕ) → n + 3 ≤ length s → length (hex_from n s) ≡ length s - (n + 1)
 unfolding hex_from
 length-hex_from n s h = length-take-le (length s - (n + 1)) (drop n s) (rw (length-drop n s) (omega arith))
+
+-- HEX is no longer than the line
+pub hex_length : (n : ℕ) (s : List ℕ) → length s ≤ longest → length (hex_from n s) ≤ longest
+unfolding hex_from
+hex_length n s h = omega (arith, length-take (length s - (n + 1)) (drop n s), length-drop n s)
 
 module _ (lo hi s : List ℕ) (good : headed lo hi s ≡ true) where
   at_place : (i : ℕ) → i < length lo → (get_or lo i 0 ≤ get_or s i 0) × (get_or s i 0 ≤ get_or hi i 0)

@@ -13,7 +13,7 @@ use Rattle.append.proofs.AppendLaws.{added_on, added_all, number_small, number_l
 use Rattle.session.specs.Tables.{since, stamp_size}
 use Rattle.text.specs.Hex.{hex_of}
 use Rattle.text.proofs.HexLaws.{length_hex}
-use Rattle.gate_lines.specs.Gate.{decimal_digit, decimal_text, refused_head, closing, text_size, stamp_opens}
+use Rattle.gate_lines.specs.Gate.{Reply, decimal_digit, decimal_text, refused_head, closing, refused_text, reply_text, text_size, stamp_opens}
 
 -- ---- a number in decimal
 
@@ -67,7 +67,14 @@ length_decimal n = by (ltb n 10) (ltb n 100)
 pub refused_fits : (n : ℕ) → length (refused_head ++ decimal_text n ++ closing) ≤ text_size
 refused_fits n = omega (arith, text_room, length-append refused_head (decimal_text n), length-append (refused_head ++ decimal_text n) closing, length_decimal n)
 
--- and that of a stamp the most
+-- what a line prints is no longer than the most
+pub reply_fits : (r : Reply) → length (reply_text r) + 0 ≤ text_size
+unfolding reply_text refused_text
+reply_fits Reply.ok = omega (arith, text_room)
+reply_fits Reply.bad = omega (arith, text_room)
+reply_fits (Reply.refused n) = omega (arith, refused_fits n)
+
+-- and the text of a stamp is the most
 pub stamp_fits : (stamp : List ℕ) → length stamp ≡ stamp_size since → length (stamp_opens ++ hex_of stamp ++ closing) ≤ text_size
 unfolding text_size
 stamp_fits stamp e = omega (arith, e, length_hex stamp, length-append stamp_opens (hex_of stamp), length-append (stamp_opens ++ hex_of stamp) closing)

@@ -18,8 +18,9 @@ use std::marker::Model;
 // line is told from a whole one.
 pub const HELD: usize = LONGEST + 1;
 
-// The program between two bytes of its input: its state, and the first bytes of the line that is not whole yet.
-#[derive(Drop)]
+// The program between two bytes of its input: its state, and the first bytes of the line that is not whole yet. Clone
+// and Copy alone, as `Gate` is, and what is fed.
+#[derive(Clone, Copy)]
 pub struct Input {
     gate: Gate,
     line: Text<HELD>,
@@ -34,10 +35,12 @@ impl Model for Input {
     ghost view = { λ a. record { gate = a.gate; held = a.line } };
 
     ghost invariant = { λ a. length a.line ≤ most_held };
+
+    ghost inverse = { λ v. record { gate = v.gate; line = v.held } };
 }
 
 // How far a block is used, and what is printed.
-#[derive(Drop)]
+#[derive(Clone, Copy)]
 pub struct Fed {
     pub used: usize,
     pub text: Text<TEXT>,

@@ -1,23 +1,22 @@
 // What the program prints.
 ghost use Rattle.std.specs.Prelude.{◌≡◌};
-ghost use Rattle.session.specs.Operation.{refusal_number};
 ghost use Rattle.gate_lines.specs.Gate.{refused_text, reply_text, stamp_text, end_text};
-ghost use Rattle.gate_lines.specs.GateCode.{reply_of};
+ghost use Rattle.gate_lines.specs.GateCode.{reply_of, reply_by_line};
 ghost use Rattle.gate_lines.specs.Run.{EndPromise};
 
-use crate::state::{Gate, LineError, TEXT};
+use crate::state::{Gate, LineError, LineReply, TEXT};
 use append::Text;
 use common::refusal::Numbered;
 use session::figures::STAMP;
-use session::state::{Refusal, Session};
+use session::state::Session;
 
 // `(refused N)`.
-fn refused_text(refusal: Refusal) -> Text<TEXT>
-    ensures { result ≡ refused_text (refusal_number refusal) }
+fn refused_text(n: u8) -> Text<TEXT>
+    ensures { result ≡ refused_text n }
 {
     let mut text = Text::new();
     text.add(b"(refused ");
-    text.add_decimal(u64::from(refusal.number()));
+    text.add_decimal(u64::from(n));
     text.add(b")\n");
     text
 }
@@ -32,9 +31,23 @@ pub fn text(reply: Result<(), LineError>) -> Text<TEXT>
     match reply {
         Ok(()) => text.add(b"(ok)\n"),
         Err(LineError::Bad) => text.add(b"(bad)\n"),
-        Err(LineError::Refused(refusal)) => return refused_text(refusal),
+        Err(LineError::Refused(refusal)) => return refused_text(refusal.number()),
     }
     text
+}
+
+impl LineReply {
+    // What a line prints, by its reply; a caller's own number too.
+    #[tactic(auto, unfolding(crate::specs::Gate::reply_text))]
+    pub fn text(self) -> Text<TEXT>
+        ensures { result ≡ reply_text (reply_by_line self) }
+    {
+        match self {
+            LineReply::Ok => text(Ok(())),
+            LineReply::Refused(n) => refused_text(n),
+            LineReply::Bad => text(Err(LineError::Bad)),
+        }
+    }
 }
 
 // `(stamp HEX)`.
@@ -58,7 +71,7 @@ pub fn end_text(session: Session) -> Text<TEXT>
     let stamped = session.stamp(&mut stamp);
     match stamped.reply {
         Ok(()) => stamp_text(&stamp),
-        Err(refusal) => refused_text(refusal),
+        Err(refusal) => refused_text(refusal.number()),
     }
 }
 

@@ -12,8 +12,9 @@ pub const TEXT: usize = 7 + 2 * STAMP + 2;
 
 // The program: the session, dead where none is open, the keys of the cards read so far, which are the first `cards` of
 // `keys`, and the object buffer that is lent to each answer. There is no heap for a list of keys; clauses see one
-// (`Gate` in the definitions), and no contract names the count.
-#[derive(Drop)]
+// (`Gate` in the definitions), and no contract names the count. Copy, so that a caller can keep a state and come back to
+// it; nothing compares or prints one.
+#[derive(Clone, Copy)]
 pub struct Gate {
     pub(crate) session: Session,
     pub(crate) keys: [u64; CARDS],
@@ -22,14 +23,17 @@ pub struct Gate {
 }
 
 impl Model for Gate {
-    ghost use Rattle.std.specs.Prelude.{◌≤◌, take};
+    ghost use Rattle.std.specs.Prelude.{◌≡◌, ◌++◌, ◌-◌, ◌≤◌, length, replicate, take};
     ghost use Rattle.gate_lines.specs.Gate.{Gate, most_cards};
 
     ghost Value = { Gate };
 
     ghost view = { λ g. record { session = g.session; keys = take g.cards g.keys; object = g.object } };
 
-    ghost invariant = { λ g. g.cards ≤ most_cards };
+    // behind the keys stand zeros
+    ghost invariant = { λ g. (g.cards ≤ most_cards) × (g.keys ≡ take g.cards g.keys ++ replicate (most_cards - length (take g.cards g.keys)) 0) × (length (take g.cards g.keys) ≡ g.cards) };
+
+    ghost inverse = { λ v. record { session = v.session; keys = v.keys ++ replicate (most_cards - length v.keys) 0; cards = length v.keys; object = v.object } };
 }
 
 // Why a line is declined.
@@ -38,6 +42,14 @@ pub enum LineError {
     // the call that the line makes is refused
     Refused(Refusal),
     // no line of the forms, or a card for which there is no room
+    Bad,
+}
+
+// What a line prints: `(ok)`, `(refused N)` with any number, or `(bad)`.
+#[derive(Clone, Copy, Debug, PartialEq, Eq)]
+pub enum LineReply {
+    Ok,
+    Refused(u8),
     Bad,
 }
 

@@ -1,9 +1,9 @@
--- `append::Text::add_hex` meets its contract: the digits are stored in the rest of the buffer. Assumes nothing.
-use Rattle.append.proofs.AppendLaws.{hex_stored}
+-- `append::Text::add_hex` meets its contract, by that of `append::add_hex`. Assumes nothing.
+use Rattle.append.proofs.LentLaws.{blank_added, text_added}
 use Rattle.append.proofs.Text.add_hex.Goals as goal
 
+pub invariant_of-self : goal.invariant_of-self
+invariant_of-self g c = blank_added g.row.N c.self.invariant c.self.told c.add_hex-self-inside.ensures
+
 pub returns : goal.returns
-returns g c =
-    let q = c.self.inside in
-    hex_stored g.row.N q.len c.write-n.result q.bytes c.args.self.now c.args.s.now c.write-n.new.out c.self.told c.self.invariant c.self.view_is
-    c.write-n.ensures.is c.write-n.ensures.stores
+returns g c = text_added g.row.N c.self.told c.self.view_is c.add_hex-self-inside.ensures

@@ -4,7 +4,6 @@ use mathlib.Core.List.{List, ◌++◌}
 use Prim.Native.Nat.{ℕ}
 use native.Mathlib.Omega.{arith}
 use Rattle.append.specs.Append.{number_text}
-use Rattle.session.specs.Operation.{refusal_number}
 use Rattle.session.specs.Tables.{stamp_size}
 use Rattle.gate_lines.specs.Gate.{refused_head, closing, decimal_text, refused_text, text_size}
 use Rattle.gate_lines.proofs.ReplyTextLaws.{number_decimal, three_parts, refused_fits}
@@ -13,8 +12,7 @@ use Rattle.gate_lines.proofs.reply.refused_text.Goals as goal
 pub returns : goal.returns
 unfolding refused_text text_size stamp_size
 returns c =
-    let n = refusal_number c.args.refusal in
-    let same : c.from.result ≡ n = c.from.ensures ∙ c.number.ensures in
-    let digits : number_text c.from.result ≡ decimal_text n = ap number_text same ∙ number_decimal n (omega (arith, c.number.ensures, c.number.type_inv)) in
+    let n = c.args.n in
+    let digits : number_text c.from.result ≡ decimal_text n = ap number_text c.from.ensures ∙ number_decimal n (omega arith) in
     three_parts text_size refused_head (number_text c.from.result) closing c.new-text.ensures c.add.ensures c.add_decimal.ensures c.add-2.ensures (rw digits (refused_fits n))
     ∙ ap (λ (l : List ℕ). refused_head ++ l ++ closing) digits

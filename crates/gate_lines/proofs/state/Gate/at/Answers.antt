@@ -1,5 +1,5 @@
 -- `gate_lines::state::Gate::at` meets its contract: as many keys are kept as there is room for. Assumes nothing.
-use mathlib.Core.Path.{◌≡◌, ap, ◌∙◌}
+use mathlib.Core.Path.{◌≡◌, refl, ap, ◌∙◌}
 use mathlib.Core.List.{List, ◌++◌}
 use Prim.Native.Nat.{ℕ, ◌≤◌, min}
 use native.Mathlib.Omega.{arith}
@@ -7,6 +7,7 @@ use lib.ListN.{length, take}
 use lib.Seq.{take_at, length-take-le}
 use Rattle.common.proofs.ListsLaws.{take_most}
 use Rattle.gate_lines.specs.Gate.{most_cards}
+use Rattle.gate_lines.proofs.LentLaws.{front_blank}
 use Rattle.gate_lines.proofs.state.Gate.at.Goals as goal
 
 -- the first n of a list, stored at the front of another, are its first 1,024
@@ -17,3 +18,9 @@ pub returns : goal.returns
 returns c =
     ap (λ (l : List ℕ). record { session = c.args.session; keys = l; object = c.args.object.now })
     (kept c.args.keys.now _ _ c.min-cards.result c.min-cards.ensures c.copy_from_slice.ensures.after (omega arith))
+
+pub invariant_of-result : goal.invariant_of-result
+invariant_of-result c =
+    let long : length c.copy_from_slice.new.self ≡ c.min-cards.result =
+    ap length c.copy_from_slice.ensures.after ∙ length-take-le c.min-cards.result c.args.keys.now (omega arith) in
+    front_blank most_cards c.min-cards.result c.copy_from_slice.new.self _ (omega arith) long refl
