@@ -19,7 +19,7 @@ use Rattle.gate_lines.specs.Input.{InputState, input_after_byte, input_after, te
 use Rattle.gate_lines.specs.InputCode.{part_from}
 use Rattle.gate_lines.specs.Run.{printed_for}
 use Rattle.gate_lines.proofs.InputLaws.{feed_append, text_append, feed_promise, whole_reading}
-use Rattle.gate_stream.specs.Stream.{read_size, reply_most, out_size, ReadWhole, Fed, ending_text, output_for, EndsFor}
+use Rattle.gate_stream.specs.Stream.{read_size, reply_most, out_size, ReadWhole, BlockFed, BlockFails, Fed, ending_text, output_for, EndsFor}
 use Rattle.gate_stream.specs.declared.GateError.{GateError}
 use Rattle.gate_stream.specs.declared.GateError.TheVariants.{NoInput, NoOutput, NoEnd}
 
@@ -94,6 +94,12 @@ fed_block turns next m n o left mid left' held was held' text block f e r t w h 
       each = omega (arith, f.each, length-append f.bytes block, h);
     }
 
+-- the same of a block that was read and written
+pub fed_on : (turns next : ℕ) (m n o : InputState) (left mid left' held was held' : Option (List ℕ)) (buffer text : List ℕ) (k : ℕ) → FedBy turns m n left mid held was
+    → BlockFed n o mid left' buffer text k → Appends was held' (text_of_input n (take k buffer)) → next ≤ turns + k → FedBy next m o left left' held held'
+fed_on turns next m n o left mid left' held was held' buffer text k f b w h =
+    fed_block turns next m n o left mid left' held was held' (text_of_input n (take k buffer)) (take k buffer) f b.state b.read refl w (omega (arith, length-take k buffer, b.within, h))
+
 -- the input was read whole
 pub fed_whole : (turns : ℕ) (m n : InputState) (left left' held held' : Option (List ℕ)) → FedBy turns m n left left' held held' → IsAtEnd left' → Fed m n left left' held held' (Ok tt)
 fed_whole turns m n left left' held held' f h = record { bytes = f.bytes; is = f.is; read = f.read; whole = inl h; wrote = f.wrote }
@@ -113,6 +119,13 @@ fed_untaken turns m n o left mid left' held was held' block f e r =
       whole = tt;
       wrote = tt;
     }
+
+-- a block failed, by its read or by its write
+pub fed_failed : (turns : ℕ) (m n o : InputState) (left mid left' held was held' : Option (List ℕ)) (buffer before text : List ℕ) (why : GateError) → FedBy turns m n left mid held was
+    → BlockFails why n o mid left' was held' buffer before text → Fed m o left left' held held' (Err why)
+fed_failed turns m n o left mid left' held was held' buffer before text NoInput f (kept, same, unwritten, t) = rw (same, unwritten) (fed_unread turns m n left mid left' held was f kept)
+fed_failed turns m n o left mid left' held was held' buffer before text NoOutput f (k, b) = fed_untaken turns m n o left mid left' held was held' (take k buffer) f b.state b.read
+fed_failed turns m n o left mid left' held was held' buffer before text NoEnd f b = absurd b
 
 -- ---- the end
 

@@ -1,7 +1,7 @@
 -- What was fed to the program, what it wrote, and what is printed at the end.
 -- Assumes nothing.
-use Rattle.std.specs.Prelude.{◌≡◌, List, [], ◌∷◌, ◌++◌, ℕ, ◌-◌, ◌*◌, ◌^◌, ◌≤◌, ◌⊎◌, Option, Result, Ok, Err, OnOk, length, codes}
-use Rattle.std.specs.Io.KnownBytes.{Consumes, IsAtEnd, Appends}
+use Rattle.std.specs.Prelude.{◌≡◌, List, [], ◌∷◌, ◌++◌, ℕ, ◌-◌, ◌*◌, ◌^◌, ◌≤◌, ◌⊎◌, Option, Result, Ok, Err, OnOk, length, take, codes}
+use Rattle.std.specs.Io.KnownBytes.{Consumes, IsAtEnd, Appends, Keeps}
 use Rattle.gate_lines.specs.Gate.{fresh, end_text}
 use Rattle.gate_lines.specs.Run.{SinceOpen, since_open, printed_for, end_for}
 use Rattle.gate_lines.specs.Input.{lines_in, InputState, input_after, text_of_input, last_gate, last_text, printed_of}
@@ -31,6 +31,23 @@ WhereTaken (Err NoEnd) p = ⊥
 -- The input was read to its end, or so many bytes were read that no run comes to it.
 abbrev pub ReadWhole : Option (List ℕ) → List ℕ → Type 0
 ReadWhole left bytes = IsAtEnd left ⊎ (2 ^ 64 - 1 ≤ length bytes)
+
+-- One block: the first n bytes of the buffer are those that a read gave, none only at the end of the input. The second
+-- state is what the first becomes by just these bytes, and the text is just what they print.
+pub record BlockFed (m m' : InputState) (left left' : Option (List ℕ)) (buffer text : List ℕ) (n : ℕ) : Type 0 where
+  pub within : n ≤ length buffer
+  pub read : Consumes left left' (take n buffer)
+  pub whole : n ≡ 0 → IsAtEnd left'
+  pub state : m' ≡ input_after m (take n buffer)
+  pub prints : text ≡ text_of_input m (take n buffer)
+
+-- One block that failed. Where its read did, nothing was fed or written, and the text stands as it was. Where the write
+-- did, it was read and fed; of what was written the library says nothing.
+abbrev pub BlockFails : GateError → (m m' : InputState) (left left' held held' : Option (List ℕ)) (buffer before text : List ℕ)
+    → Type 0
+BlockFails NoInput m m' left left' held held' buffer before text = Keeps left left' × (m' ≡ m) × (held' ≡ held) × (text ≡ before)
+BlockFails NoOutput m m' left left' held held' buffer before text = (n : ℕ) × BlockFed m m' left left' buffer text n
+BlockFails NoEnd m m' left left' held held' buffer before text = ⊥
 
 -- The second state is what the first becomes by some bytes: those that the reader had first, of which `left` were left
 -- before and `left'` are now. What the definitions print for them was added to what the writer held. Where the reader's

@@ -7,11 +7,12 @@
 // or a Vec, this names each byte; of what the system reads and writes no contract can say a byte.
 #![tactic(auto)]
 
-ghost use Rattle.std.specs.Prelude.{◌≡◌, ◌-◌, ◌^◌, ◌≤◌, ◌<◌, IfSome, IfOk, OnOk, IfErr, length, replicate};
+ghost use Rattle.std.specs.Prelude.{◌≡◌, ◌-◌, ◌^◌, ◌≤◌, ◌<◌, IfSome, IfOk, OnOk, IfErr, length, take, replicate};
 ghost use Rattle.std.specs.Io.KnownBytes.{Appends, ReadConsumes};
 ghost use Rattle.session.specs.Tables.{object_size};
 ghost use Rattle.gate_lines.specs.Input.{input_after, text_of_input};
-ghost use Rattle.gate_stream.specs.Stream.{read_size, Fed, ending_text, output_for, EndsFor, reason_of};
+ghost use Rattle.gate_stream.specs.Stream.{read_size, BlockFed, BlockFails, Fed, ending_text, output_for};
+ghost use Rattle.gate_stream.specs.Stream.{EndsFor, reason_of};
 
 use append::Text;
 use gate_lines::input::Input;
@@ -77,11 +78,33 @@ fn run_block(gate: &mut Input, block: &[u8], out: &mut Text<OUT>)
     }
 }
 
-// Blocks to the end of the input. What a block prints is written then, so that whoever sent a line has its answer
-// before the next is waited for. A proved loop has to end, and nothing says that the input does: the turns are counted
-// up to a number that no run comes to.
+// One block that is read. What it prints is written then, so that whoever sent a line has its answer before the next is
+// waited for: nothing is owed to a later block.
 // The reader, the writer and the two buffers are the caller's own, each lent by itself: a struct of four loans with two
-// type parameters, for these three functions, would be no plainer.
+// type parameters, for the four functions that take them, would be no plainer.
+fn one_block<R: Read, W: Write>(
+    from: &mut R,
+    to: &mut W,
+    gate: &mut Input,
+    input: &mut [u8; READ],
+    out: &mut Text<OUT>,
+) -> Result<usize, GateError>
+    ensures block { IfOk result (λ n. BlockFed gate.old gate.new (R.remaining from.old) (R.remaining from.new)
+        input.new out.new n) }
+    ensures written { IfOk result (λ n. Appends (W.contents to.old) (W.contents to.new)
+        (text_of_input gate.old (take n input.new))) }
+    ensures fails { IfErr result (λ why. BlockFails why gate.old gate.new (R.remaining from.old) (R.remaining from.new)
+        (W.contents to.old) (W.contents to.new) input.new out.old out.new) }
+{
+    let n = read_some(from, input)?;
+    run_block(gate, &input[..n], out);
+    let taken = to.write_all(out.as_bytes());
+    taken.map_err(|_| GateError::NoOutput)?;
+    Ok(n)
+}
+
+// Blocks to the end of the input. A proved loop has to end, and nothing says that the input does: the turns are counted
+// up to a number that no run comes to.
 fn run_input<R: Read, W: Write>(
     from: &mut R,
     to: &mut W,
@@ -92,10 +115,7 @@ fn run_input<R: Read, W: Write>(
     ensures { Fed gate.old gate.new (R.remaining from.old) (R.remaining from.new) (W.contents to.old) (W.contents to.new) result }
 {
     for _ in 0..u64::MAX {
-        let n = read_some(from, input)?;
-        run_block(gate, &input[..n], out);
-        to.write_all(out.as_bytes())
-            .map_err(|_| GateError::NoOutput)?;
+        let n = one_block(from, to, gate, input, out)?;
         if n == 0 {
             return Ok(());
         }
