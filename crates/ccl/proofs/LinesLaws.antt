@@ -3,7 +3,7 @@
 use mathlib.Core.Path.{◌≡◌, refl, sym, ap, subst, ◌∙◌}
 use mathlib.Core.Bool.{Bool, cond}
 use mathlib.Core.List.{List, [], ◌∷◌, ◌++◌, append-nil, append_assoc}
-use Prim.Native.Nat.{ℕ, zero, suc, ◌+◌, ◌*◌, ◌/◌, ◌≤◌, ◌<◌}
+use Prim.Native.Nat.{ℕ, zero, suc, ◌+◌, ◌-◌, ◌*◌, ◌/◌, ◌≤◌, ◌<◌}
 use native.Mathlib.Numerals.{add-one}
 use native.Mathlib.Omega.{arith}
 use lib.ListN.{length, get_or, take, drop, length-append}
@@ -21,6 +21,11 @@ use Rattle.ccl.specs.ListText.{line_at, good_lines, lines_of}
 use Rattle.ccl.proofs.LineLaws.{length_line}
 
 -- ---- a line of a text
+
+-- the part of the text from place 32 * i on to place 32 * i + 32
+pub part_line : (text : List ℕ) (i : ℕ) → take (32 * i + 32 - 32 * i) (drop (32 * i) text) ≡ line_at text i
+unfolding line_at
+part_line text i = let e : 32 * i + 32 - 32 * i ≡ 32 = omega arith in rw e
 
 -- the whole lines of a text, the first n and all
 abbrev pub lines_from : ℕ → List ℕ → List (List ℕ)

@@ -9,8 +9,8 @@ use common::refusal::Numbered;
 use common::slice;
 
 // Document 02's CIN. A type of its own, whose number no other crate reads or sets: it comes from an entry, and is never
-// compared with a FASC-N key.
-#[derive(Clone, Copy, Debug, PartialEq, Eq)]
+// compared with a FASC-N key. Hence no Debug, which would show the number, and no PartialEq, which would tell it.
+#[derive(Clone, Copy)]
 pub struct Cin(pub(crate) u64);
 
 // The most digits of a CIN; `longest_cin` in the definitions.

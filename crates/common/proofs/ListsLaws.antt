@@ -9,10 +9,10 @@ use Prim.Native.Nat.{ℕ, zero, suc, ◌+◌, ◌-◌, ◌≤◌, ◌<◌, min}
 use native.Mathlib.Nat.{not-suc-le-zero, le_of_suc-le-suc, le_step, le_refl, eq-or-lt_of_le, add-zero, add-suc, zero-add}
 use native.Mathlib.Numerals.{add-one}
 use native.Mathlib.Omega.{arith}
-use borrow.Author.Tests.{eqb-true, eq-eqb}
+use borrow.Author.Tests.{eqb-true, eq-eqb, ne_eqb}
 use lib.Dec.{eqb}
 use lib.ListN.{length, get_or, set, take, drop, length-append, length-drop, take-append-drop, get_or-append, length-take}
-use lib.Seq.{take-nil, drop-cons, length-take-le, append_snoc, set_at, get_or_at, ext_get_or, take_at, drop_at, drop-drop, take-append_seam, drop-append-add, get_or-append-add, get_or-drop}
+use lib.Seq.{take-nil, drop-nil, drop-cons, length-take-le, append_snoc, set_at, get_or_at, ext_get_or, take_at, drop_at, drop-drop, take-append_seam, drop-append-add, get_or-append-add, get_or-take, get_or-drop}
 use Rattle.common.proofs.TestLaws.{clash}
 use Rattle.common.specs.Lists.{list_of, all, same_bytes, written, over_front, over_places}
 
@@ -75,6 +75,17 @@ unfolding same_bytes
 same_bytes_lem a b p =
     let q = (and-eq-true_iff (eqb (length a) (length b)) (all (length a) (λ i. eqb (get_or a i 0) (get_or b i 0)))).0 p in
     ext_get_or 0 a b (eqb-true _ _ q.0) (λ i h. eqb-true _ _ (all_at (λ i. eqb (get_or a i 0) (get_or b i 0)) (length a) q.1 i h))
+
+-- the first bytes of a list compared with others, by the bytes, where there are as many
+pub same_front : (p s : List ℕ) → length p ≤ length s → same_bytes (take (length p) s) p ≡ all (length p) (λ i. eqb (get_or s i 0) (get_or p i 0))
+unfolding same_bytes
+same_front p s h =
+    rw (length-take-le (length p) s h, eq-eqb (length p) (length p) refl)
+    (all_ext (length p) (λ i l. ap (λ (x : ℕ). eqb x (get_or p i 0)) (get_or-take (length p) s i 0 l)))
+
+pub same_short : (p s : List ℕ) → length s < length p → same_bytes (take (length p) s) p ≡ false
+unfolding same_bytes
+same_short p s h = rw (ne_eqb (length (take (length p) s)) (length p) (λ e. omega (arith, length-take (length p) s)))
 
 -- ---- lists
 
@@ -198,3 +209,10 @@ take_most n (suc r) [] e = take-nil n
 take_most n (suc r) (a ∷ s) e =
     let z : n ≡ suc (min (length s) r) = omega (arith, e) in
     ap (λ (i : ℕ). take i (a ∷ s)) z ∙ ap (λ (l : List ℕ). a ∷ l) (take_most (min (length s) r) r s refl)
+
+pub drop_most : (n m : ℕ) (s : List ℕ) → n ≡ min (length s) m → drop n s ≡ drop m s
+drop_most n zero s e = let z : n ≡ 0 = omega (arith, e) in ap (λ (i : ℕ). drop i s) z
+drop_most n (suc r) [] e = drop-nil n
+drop_most n (suc r) (a ∷ s) e =
+    let z : n ≡ suc (min (length s) r) = omega (arith, e) in
+    ap (λ (i : ℕ). drop i (a ∷ s)) z ∙ drop_most (min (length s) r) r s refl

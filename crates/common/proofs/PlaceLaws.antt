@@ -3,7 +3,7 @@
 use mathlib.Core.Path.{◌≡◌, refl, ap, ◌∙◌}
 use mathlib.Core.Bool.{Bool, true, false}
 use mathlib.Core.List.{List, [], ◌∷◌, ◌++◌}
-use Prim.Native.Nat.{ℕ, suc, ◌+◌, ◌<◌}
+use Prim.Native.Nat.{ℕ, suc, ◌+◌, ◌≤◌, ◌<◌, zero-le, suc-le-suc}
 use native.Mathlib.Nat.{not-suc-le-zero, le_of_suc-le-suc}
 use native.Mathlib.Numerals.{add-one}
 use borrow.Author.Tests.{eqb-true}
@@ -28,6 +28,11 @@ pub none_before : (s : List ℕ) → NoEnd (take (index_of 0x0A s) s)
 unfolding index_of index_after
 none_before [] = tt
 none_before (b ∷ s) = counted (λ n l. NoEnd (take n l)) b s (eqb b 0x0A) (λ e. tt) (λ e. (e, none_before s))
+
+pub before_within : (s : List ℕ) → index_of 0x0A s ≤ length s
+unfolding index_of index_after
+before_within [] = zero-le
+before_within (b ∷ s) = counted (λ n l. n ≤ length l) b s (eqb b 0x0A) (λ e. zero-le) (λ e. suc-le-suc (before_within s))
 
 end_after : (s : List ℕ) → index_of 0x0A s < length s → get_or s (index_of 0x0A s) 0 ≡ 0x0A
 unfolding index_of index_after

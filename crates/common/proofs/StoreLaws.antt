@@ -3,7 +3,7 @@
 use mathlib.Core.Path.{◌≡◌, sym, ap, ◌∙◌}
 use mathlib.Core.List.{List, ◌++◌, append-nil, append_assoc}
 use Prim.Native.Nat.{ℕ, ◌+◌, ◌-◌, ◌%◌, ◌≤◌, ◌<◌}
-use native.Mathlib.Nat.{le_refl}
+use native.Mathlib.Nat.{le_of_eq, le_refl}
 use native.Mathlib.Omega.{arith}
 use borrow.Author.Tests.{le-leb, lt-leb}
 use lib.ListN.{length, get_or, take, drop, length-drop, drop_of_length-le}
@@ -67,3 +67,11 @@ part_at s at n j h = get_or-take _ (drop at s) j 0 (omega arith) ∙ get_or-drop
 pub number_part : (s : List ℕ) (at n b : ℕ) {w : ℕ} → at + n ≤ length s
     → w ≡ number b (length (take ((at + n) - at) (drop at s))) (λ j. get_or (take ((at + n) - at) (drop at s)) j 0 % b) → w ≡ number b n (λ j. get_or s (at + j) 0 % b)
 number_part s at n b h e = rw (length_part s at n h) at e ∙ number_ext b n (λ j l. ap (λ (x : ℕ). x % b) (part_at s at n j l))
+
+-- a part that runs to the end comes back with s over its front: s is stored from the part's first place on
+pub part_over : (d s : List ℕ) (at : ℕ) {l : List ℕ} → l ≡ over_front s (take (length d - at) (drop at d))
+    → take at d ++ (l ++ drop (length d - at) (drop at d)) ≡ over_places d at s
+unfolding over_front over_places
+part_over d s at e =
+    let whole : take (length d - at) (drop at d) ≡ drop at d = take_all (length d - at) (drop at d) (le_of_eq (length-drop at d)) in
+    rw (drop_of_length-le (drop at d) (le_of_eq (length-drop at d)), append-nil, e, whole, drop-drop) (sym (append_assoc (take at d) s (drop (at + length s) d)))

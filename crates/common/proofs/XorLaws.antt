@@ -4,6 +4,7 @@ use mathlib.Core.Path.{◌≡◌, refl, sym, ap, ap₂, ◌∙◌}
 use mathlib.Core.List.{List, [], ◌∷◌, ◌++◌}
 use Prim.Native.Nat.{ℕ, zero, suc, ◌+◌, ◌*◌, ◌/◌, ◌%◌, ◌^◌, ◌<◌}
 use native.Mathlib.Nat.{mod-lt, le_step, le_refl}
+use native.Mathlib.Numerals.{add-one}
 use native.Mathlib.Omega.{arith}
 use lib.Arith.{bin_ind}
 use lib.Bits.{bit_xor, differ, xor_step, xor_shr, xor_mod, xor_comm, xor_zero_r, xor_lt}
@@ -39,6 +40,11 @@ pub xor_of-append : (l m : List ℕ) → xor_of (l ++ m) ≡ bit_xor (xor_of l) 
 unfolding xor_of
 xor_of-append [] m = refl
 xor_of-append (x ∷ l) m = rw (xor_of-append l m) (sym (xor_assoc x (xor_of l) (xor_of m)))
+
+-- a loop that takes the exclusive or, from z on
+pub xor_of_more : (z : ℕ) (f : ℕ → ℕ) (i : ℕ) {x : ℕ} → x ≡ bit_xor z (xor_of (list_of i f)) → bit_xor x (f i) ≡ bit_xor z (xor_of (list_of (i + 1) f))
+unfolding list_of xor_of
+xor_of_more z f i p = rw (p, add-one, xor_of-append (list_of i f) (f i ∷ []), xor_zero_r, xor_assoc)
 
 pub xor_of_lt : (k : ℕ) (f : ℕ → ℕ) (n : ℕ) → ((i : ℕ) → i < n → f i < 2 ^ k) → xor_of (list_of n f) < 2 ^ k
 unfolding list_of xor_of

@@ -39,6 +39,15 @@ unfolding verdict_of
 verdict_same s kind yes_no fascn h = by_refusal (eqb (verdict_refusal s kind yes_no fascn) 0) _ _ s h
 
 -- so does a command call, and its count is 0
+pub command_same : (s : Session) (room : ℕ) → ((command_of s room).0 ≡ 0 → ⊥) → ((command_of s room).1 ≡ 0) × ((command_of s room).2 ≡ s)
+unfolding command_of
+command_same s room = by (eqb (command_refusal s room) 0) _ _
+  where
+    by : (b : Bool) (n : ℕ) (x : Session) → let r = cond {A = ℕ × ℕ × Session} b (0, n, x) (command_refusal s room, 0, s) in (r.0 ≡ 0 → ⊥) → (r.1 ≡ 0) × (r.2 ≡ s)
+    by true n x h = absurd (h refl)
+    by false n x h = (refl, refl)
+
+-- the same of the three as one
 pub command_refused : (s : Session) (room : ℕ) {n : ℕ} → n ≡ (command_of s room).0 → (n ≡ 0 → ⊥) → ◌≡◌ {A = ℕ × ℕ × Session} (n, 0, s) (command_of s room)
 unfolding command_of
 command_refused s room {n} e h = by (eqb (command_refusal s room) 0) _ _ e
@@ -80,6 +89,14 @@ kept b x s {k} {n} {c} e f g again same =
     by : (t : Bool) → eqb x.0 0 ≡ t → n ≡ x.0 → c ≡ image_after b x → load_of c ≡ x.1
     by true h number left = again (number ∙ eqb-true x.0 0 h) ∙ ap (λ (y : ℕ × Session). y.1) e
     by false h number left = let d : c ≡ b = left ∙ rw h in ap load_of d ∙ sym (same (eqb-false x.0 0 h))
+
+-- a count that is written where the call is accepted, and is 0 where it is not
+pub counted : (n m old : ℕ) {k : ℕ} → k ≡ where_number 0 n m old → ((n ≡ 0 → ⊥) → m ≡ 0) → where_number 0 n k 0 ≡ m
+counted n m old {k} e z = by (eqb n 0) refl
+  where
+    by : (t : Bool) → eqb n 0 ≡ t → where_number 0 n k 0 ≡ m
+    by true h = rw h (e ∙ rw h)
+    by false h = rw h (sym (z (eqb-false n 0 h)))
 
 -- ---- an image that comes from a history is the image of its session, byte for byte
 

@@ -7,12 +7,13 @@ use Prim.Native.Nat.{ℕ, zero, suc, ◌+◌, ◌*◌, ◌≤◌, ◌<◌}
 use native.Mathlib.Nat.{le_of_eq}
 use native.Mathlib.Omega.{arith}
 use lib.Dec.{eqb, leb}
-use lib.ListN.{length, get_or, take, drop, replicate, length-append, length-drop, take-append-drop}
+use lib.ListN.{length, get_or, take, drop, replicate, length-append, length-drop, length-replicate, take-append-drop}
 use lib.Seq.{take_at, drop_at, take_all, get_or_at, length-take-le}
 use borrow.Author.Tests.{leb-true, eqb-true}
 use Rattle.std.specs.Int.{from_bool}
-use Rattle.common.specs.Lists.{concat, list_of}
+use Rattle.common.specs.Lists.{concat, list_of, over_places_where}
 use Rattle.common.proofs.ListsLaws.{list_of_is}
+use Rattle.common.proofs.StoreLaws.{store_first, front_all}
 use Rattle.common.proofs.TestLaws.{and_left, and_right}
 use Rattle.card.specs.Object.{empty, most_fields}
 use Rattle.card.specs.declared.object.Part.{Part}
@@ -190,3 +191,13 @@ load_dead b h = rw h
 pub load_zeros : load_of (replicate image_size 0) ≡ dead
 unfolding load_of is_image segments_in cut_from
 load_zeros = refl
+
+-- ---- what is cut out
+
+-- an array that a part of the bytes fills
+pub array_in : (b : List ℕ) (at n : ℕ) {a p : List ℕ} → at + n ≤ length b → p ≡ take n (drop at b) → a ≡ over_places_where (replicate n 0) 0 p → a ≡ take n (drop at b)
+array_in b at n {a} {p} h e f =
+    let k : length p ≡ n = ap length e ∙ length_cut b at n h in
+    let zeros : List ℕ = replicate n 0 in
+    let room : length zeros ≡ n = length-replicate {A = ℕ} n 0 in
+    f ∙ store_first zeros p (omega (arith, k, room)) ∙ front_all p zeros (omega (arith, k, room)) ∙ e

@@ -1,17 +1,19 @@
 -- Numbers as bytes, the highest first, and back, over the width; lists stored one after another, and a part of a part.
 -- Assumes nothing.
-use mathlib.Core.Path.{◌≡◌, refl, sym, ap, ◌∙◌}
+use mathlib.Core.Path.{◌≡◌, refl, sym, ap, ap₂, ◌∙◌}
 use mathlib.Core.List.{List, [], ◌∷◌, ◌++◌, append_assoc}
-use Prim.Native.Nat.{ℕ, zero, suc, ◌+◌, ◌-◌, ◌/◌, ◌%◌, ◌^◌, ◌≤◌, ◌<◌}
-use native.Mathlib.Nat.{mod-eq_of_lt, div-one, add_assoc}
+use Prim.Native.Nat.{ℕ, zero, suc, ◌+◌, ◌-◌, ◌*◌, ◌/◌, ◌%◌, ◌^◌, ◌≤◌, ◌<◌}
+use native.Mathlib.Nat.{mod-eq_of_lt, div-one, add-zero, add_assoc, div-div-eq-div-mul}
 use native.Mathlib.Omega.{arith}
 use lib.Dec.{lit<}
+use lib.Pow.{pow-add}
 use lib.ListN.{length, get_or, take, drop, length-append}
-use lib.Seq.{take_at, take-take, drop-drop, drop-append-add, length-take-le}
+use lib.Seq.{take_at, take-take, drop-drop, drop-append-add, get_or-take, get_or-drop, length-take-le}
 use Rattle.common.specs.Lists.{list_of, number, over_places}
-use Rattle.common.proofs.ListsLaws.{length-list_of, get_or_list_of, list_of_is}
-use Rattle.common.proofs.NumberLaws.{number_ext, number-mod, number_digit}
+use Rattle.common.proofs.ListsLaws.{length-list_of, get_or_list_of, list_of_is, list_of_ext, list_of-append}
+use Rattle.common.proofs.NumberLaws.{number_ext, number_append, number-mod, number_digit}
 use Rattle.std.specs.Int.{w32, w64, to_be_bytes, from_be_bytes}
+use Rattle.session.specs.Tables.{four_bytes}
 use Rattle.session.specs.Promise.{Bytes}
 use Rattle.host.specs.Image.{high_first, from_high}
 
@@ -30,6 +32,48 @@ high_again n x h = number_ext 256 n (λ i l. get_or_list_of n (λ i. x / 256 ^ (
 pub bytes_again : (n : ℕ) (l : List ℕ) → length l ≡ n → Bytes l → high_first n (from_high n l) ≡ l
 unfolding high_first from_high
 bytes_again n l e h = list_of_is n _ l e (λ i k. number_digit 256 n (λ i. get_or l i 0) (λ j m. h j) i k)
+
+-- the first n of n + m bytes, and the last m
+pub high_halves : (n m x : ℕ) → high_first n (x / 256 ^ m) ++ high_first m (x % 256 ^ m) ≡ high_first (n + m) x
+unfolding high_first
+high_halves n m x = sym (list_of-append n m (λ i. x / 256 ^ (n + m - suc i) % 256) ∙ ap₂ ◌++◌ (list_of_ext n higher) (list_of_ext m lower))
+  where
+    higher : (i : ℕ) → i < n → x / 256 ^ (n + m - suc i) % 256 ≡ x / 256 ^ m / 256 ^ (n - suc i) % 256
+    higher i h = let e : n + m - suc i ≡ m + (n - suc i) = omega arith in rw (e, pow-add, div-div-eq-div-mul)
+
+    lower : (j : ℕ) → j < m → x / 256 ^ (n + m - suc (n + j)) % 256 ≡ x % 256 ^ m / 256 ^ (m - suc j) % 256
+    lower j h =
+        let e : n + m - suc (n + j) ≡ m - suc j = omega arith in
+        rw (e, ← number-mod 256 m x (lit< tt)) (sym (number_digit 256 m (λ i. x / 256 ^ (m - suc i) % 256) (λ i k. omega arith) j h))
+
+-- and as numbers
+pub from_halves : (n m at : ℕ) (l : List ℕ) → from_high n (take n (drop at l)) * 256 ^ m + from_high m (take m (drop (at + n) l)) ≡ from_high (n + m) (take (n + m) (drop at l))
+unfolding from_high
+from_halves n m at l = sym (number_append 256 n m (λ i. get_or (take (n + m) (drop at l)) i 0) ∙ ap₂ (λ (a b : ℕ). a * 256 ^ m + b) (number_ext 256 n higher) (number_ext 256 m lower))
+  where
+    higher : (i : ℕ) → i < n → get_or (take (n + m) (drop at l)) i 0 ≡ get_or (take n (drop at l)) i 0
+    higher i h = get_or-take (n + m) (drop at l) i 0 (omega arith) ∙ sym (get_or-take n (drop at l) i 0 h)
+
+    lower : (j : ℕ) → j < m → get_or (take (n + m) (drop at l)) (n + j) 0 ≡ get_or (take m (drop (at + n) l)) j 0
+    lower j h =
+        get_or-take (n + m) (drop at l) (n + j) 0 (omega arith) ∙ get_or-drop at l (n + j) 0 ∙ ap (λ (i : ℕ). get_or l i 0) (sym (add_assoc at n j))
+        ∙ sym (get_or-take m (drop (at + n) l) j 0 h ∙ get_or-drop (at + n) l j 0)
+
+-- four bytes as a sum
+pub four_sum : (at : ℕ) (l : List ℕ)
+    → get_or l (at + 3) 0 + get_or l (at + 2) 0 * 256 + get_or l (at + 1) 0 * 65536 + get_or l at 0 * 16777216 ≡ from_high 4 (take 4 (drop at l))
+unfolding from_high number
+four_sum at l =
+    let g : (i : ℕ) → i < 4 → get_or (take 4 (drop at l)) i 0 ≡ get_or l (at + i) 0 = λ i k. get_or-take 4 (drop at l) i 0 k ∙ get_or-drop at l i 0 in
+    rw (g 0 (lit< tt), g 1 (lit< tt), g 2 (lit< tt), g 3 (lit< tt), add-zero) (by (get_or l at 0) (get_or l (at + 1) 0) (get_or l (at + 2) 0) (get_or l (at + 3) 0))
+  where
+    by : (a b c d : ℕ) → d + c * 256 + b * 65536 + a * 16777216 ≡ (((0 * 256 + a) * 256 + b) * 256 + c) * 256 + d
+    by a b c d = omega arith
+
+-- four bytes as the stamp has them
+pub four_high : (x : ℕ) → four_bytes x ≡ high_first 4 x
+unfolding high_first list_of
+four_high x = rw (div-one x)
 
 -- ---- as the kit has them
 

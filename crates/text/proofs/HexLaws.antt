@@ -9,8 +9,8 @@ use borrow.Author.Tests.{leb-true, ltb-true, ltb-false, eqb-true, eqb-false, lt-
 use lib.Dec.{eqb, leb, ltb, lit<}
 use lib.ListN.{length, get_or, take, get_or-eq_default}
 use lib.Seq.{take_at}
-use Rattle.common.specs.Lists.{list_of, all, written}
-use Rattle.common.proofs.ListsLaws.{all_at, all_of, length-list_of, get_or_list_of, list_of_is}
+use Rattle.common.specs.Lists.{list_of, all, written, over_front}
+use Rattle.common.proofs.ListsLaws.{all_at, all_of, length-list_of, get_or_list_of, list_of_is, front_written}
 use Rattle.text.specs.Hex.{digit_value, is_hex, byte_at, bytes_in, hex_digit, hex_digit_at, hex_of}
 
 -- ---- digits
@@ -161,7 +161,11 @@ hex_bytes s p = list_of_is (2 * length (bytes_in s)) (hex_digit_at (bytes_in s))
 
 -- ---- in a buffer
 
--- the front of the list that `read` leaves
+-- the front of the list that `read` leaves, and all of the list that `write` leaves
 pub front_bytes : (s out : List ℕ) → take (length s / 2) (written out 0 (length s / 2) (byte_at s)) ≡ bytes_in s
 unfolding written bytes_in
 front_bytes s out = take_at (list_of (length s / 2) (byte_at s)) _ (length s / 2) (length-list_of (length s / 2) (byte_at s))
+
+pub front_hex : (s out : List ℕ) → written out 0 (2 * length s) (hex_digit_at s) ≡ over_front (hex_of s) out
+unfolding hex_of
+front_hex s out = front_written out (hex_of s) (2 * length s) (hex_digit_at s) refl

@@ -9,10 +9,12 @@ ghost use Rattle.text.specs.Hex.{digit_value, is_hex, byte_at, hex_digit, hex_di
 fn digit_value(x: u8) -> u8
     ensures { result ≡ digit_value x }
 {
-    match x {
-        b'0'..=b'9' => x - b'0',
-        b'A'..=b'F' => x - b'A' + 10,
-        _ => 16,
+    if x.is_ascii_digit() {
+        x - b'0'
+    } else if (b'A'..=b'F').contains(&x) {
+        x - b'A' + 10
+    } else {
+        16
     }
 }
 
