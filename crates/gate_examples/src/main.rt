@@ -2,6 +2,9 @@
 // program prints. The expected output, in the file `stdout`, is written from the documents.
 #![tactic(auto)]
 
+ghost use Rattle.std.specs.Prelude.{◌≡◌, ◌≤◌, true, IfSome, length, flat_map};
+ghost use Rattle.std.specs.Io.KnownBytes.{Appends};
+
 use append::Text;
 use std::env::{Env, FillError};
 use std::fs::File;
@@ -10,16 +13,21 @@ use std::io::{Error, Write};
 // The most bytes of a name; one that has more is taken as empty, which no script has.
 const NAME: usize = 4096;
 
-// The parts of a line, one after another. Where the stream takes no more, nothing can be said of it.
-fn write_line<W: Write>(to: &mut W, parts: &[&[u8]]) {
+// The parts of a line, one after another, each tried though one before it was not taken; whether all were taken. Of a
+// stream that does not take one nothing can be said.
+fn write_line<W: Write>(to: &mut W, parts: &[&[u8]]) -> bool
+    ensures { result ≡ true → Appends (W.contents to.old) (W.contents to.new) (flat_map (λ part. part.now) parts.now) }
+{
+    let mut taken = true;
     for part in parts {
-        let _taken = to.write_all(part).is_ok();
+        taken &= to.write_all(part).is_ok();
     }
+    taken
 }
 
 // A line on standard error: the name, and why its script is not run.
 fn complain(rt: &HostRuntime, name: &[u8], why: &str) {
-    write_line(&mut rt.stderr(), &[name, b": ", why.as_bytes(), b"\n"]);
+    let _taken = write_line(&mut rt.stderr(), &[name, b": ", why.as_bytes(), b"\n"]);
 }
 
 // The system's words for an error, without its number. On the heap, as the core never is: Display of an error is cut as
@@ -40,7 +48,7 @@ fn run_script(
     input: &mut [u8; gate_stream::READ],
     out: &mut Text<{ gate_stream::OUT }>,
 ) {
-    write_line(&mut rt.stdout(), &[name, b"\n"]);
+    let _taken = write_line(&mut rt.stdout(), &[name, b"\n"]);
     let Ok(path) = str::from_utf8(name) else {
         return complain(rt, name, "the name is not UTF-8");
     };
@@ -59,8 +67,10 @@ fn run_script(
     }
 }
 
-// The name that argument i is; None past the last one.
-fn name_of<'a>(rt: &HostRuntime, i: usize, buffer: &'a mut [u8; NAME]) -> Option<&'a [u8]> {
+// The name that argument i is, which lies in the buffer; None past the last one.
+fn name_of<'a>(rt: &HostRuntime, i: usize, buffer: &'a mut [u8; NAME]) -> Option<&'a [u8]>
+    ensures { IfSome result (λ name. length name.now ≤ NAME) }
+{
     match rt.arg(i, buffer) {
         Ok(n) => Some(&buffer[..n]),
         // the empty name is no script's: an Option of a Result for this one case would be no plainer

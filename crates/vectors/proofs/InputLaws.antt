@@ -7,17 +7,18 @@ use Prim.Native.Nat.{ℕ, ◌+◌, ◌-◌, ◌≤◌, ◌<◌, zero-le}
 use native.Mathlib.Nat.{zero-add}
 use native.Mathlib.Omega.{arith}
 use lib.Dec.{eqb}
-use lib.ListN.{length, take, drop, length-drop, take-append-drop}
-use lib.Seq.{drop_at, take-add, take_all, length-take-le}
+use lib.ListN.{length, get_or, take, drop, length-drop, take-append-drop}
+use lib.Seq.{drop_at, take-add, take_all, get_or-drop, get_or-take, length-take-le}
 use Rattle.std.specs.List.{copy_within}
 use Rattle.std.proofs.Math.Seq.{paste}
 use Rattle.std.proofs.lemmas.List.Edits.{take-paste, drop-paste}
-use Rattle.common.specs.Lists.{over_front, concat}
+use Rattle.common.specs.Lists.{list_of, written, over_front, concat}
+use Rattle.common.proofs.ListsLaws.{length-list_of, list_of_is, front_written, front_after}
 use Rattle.common.specs.Bytes.{index_of}
 use Rattle.common.proofs.PlaceLaws.{NoEnd, none_before, with_end}
 use Rattle.vectors.specs.FascnText.{codes_text}
 use Rattle.vectors.specs.Line.{line_text}
-use Rattle.vectors.specs.Input.{lines_text, rest_of, last_line_text, input_text, blocks_text}
+use Rattle.vectors.specs.Input.{lines_text, rest_of, last_line_text, input_text, blocks_text, moved}
 
 -- ---- block after block
 
@@ -145,6 +146,19 @@ lines_all s from end e h f r =
 
 -- ---- bytes moved to the front
 
+-- a byte past those that are written anew is as it was
+pub written_past : (b : List ℕ) (i k : ℕ) (f : ℕ → ℕ) → get_or (written b 0 i f) (k + i) 0 ≡ get_or b (k + i) 0
+written_past b i k f =
+    ap (λ (l : List ℕ). get_or l (k + i) 0) (front_written b (list_of i f) i f refl) ∙ front_after (list_of i f) b (k + i) (omega (arith, length-list_of i f))
+
+pub moved_is : (b : List ℕ) (from end : ℕ) → from ≤ end → end ≤ length b → written b 0 (end - from) (λ j. get_or b (from + j) 0) ≡ moved b from end
+unfolding moved
+moved_is b from end h g =
+    let n = end - from in
+    let p = take n (drop from b) in
+    let size : length p ≡ n = length-take-le n (drop from b) (rw length-drop (omega (arith, h, g))) in
+    front_written b p n (λ j. get_or b (from + j) 0) (list_of_is n (λ j. get_or b (from + j) 0) p size (λ i l. sym (get_or-take n (drop from b) i 0 l ∙ get_or-drop from b i 0)))
+
 paste_front : (d s : List ℕ) (n : ℕ) → n ≤ length s → n ≤ length d → paste d 0 s n ≡ over_front (take n s) d
 unfolding over_front
 paste_front d s n h g =
@@ -154,9 +168,15 @@ paste_front d s n h g =
     ap (λ (k : ℕ). drop k (paste d 0 s n)) (sym at_n) ∙ drop-paste d 0 s n zero-le h ∙ ap (λ (k : ℕ). drop k d) at_n in
     sym (take-append-drop n (paste d 0 s n)) ∙ ap₂ (λ (x y : List ℕ). x ++ y) t (u ∙ ap (λ (k : ℕ). drop k d) (sym (length-take-le n s h)))
 
+-- std's own move within a list is the same
+pub moved_within : (b : List ℕ) (from end : ℕ) → from ≤ end → end ≤ length b → copy_within b from end 0 ≡ moved b from end
+unfolding moved
+moved_within b from end h g = paste_front b (drop from b) (end - from) (rw length-drop (omega (arith, h, g))) (omega (arith, g))
+
 -- what is moved is what the block leaves
 pub kept_is : (b : List ℕ) (used end : ℕ) → end ≤ length b → used ≤ end → rest_of [] (take end b) ≡ drop used (take end b)
     → (copy_within b used end 0 ≡ over_front (rest_of [] (take end b)) b) × (end - used ≡ length (rest_of [] (take end b)))
+unfolding moved
 kept_is b used end q r f =
     let n = end - used in
     let part = take n (drop used b) in
@@ -166,4 +186,4 @@ kept_is b used end q r f =
     let rest : drop used (take end b) ≡ part =
     ap (λ (i : ℕ). drop used (take i b)) sum ∙ ap (λ (l : List ℕ). drop used l) (take-add used n b)
     ∙ drop_at (take used b) part used (length-take-le used b (omega (arith, r, q))) in
-    (paste_front b (drop used b) n room (omega (arith, q)) ∙ ap (λ (l : List ℕ). over_front l b) (sym (f ∙ rest)), sym size ∙ ap length (sym (f ∙ rest)))
+    (moved_within b used end r q ∙ ap (λ (l : List ℕ). over_front l b) (sym (f ∙ rest)), sym size ∙ ap length (sym (f ∙ rest)))

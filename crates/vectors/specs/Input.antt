@@ -1,6 +1,7 @@
 -- The input: bytes, in blocks of any size, cut into lines at 0A, and what is printed for them.
 -- Assumes nothing.
-use Rattle.std.specs.Prelude.{cond, List, [], ◌∷◌, ◌++◌, ℕ, eqb, length}
+use Rattle.std.specs.Prelude.{cond, List, [], ◌∷◌, ◌++◌, ℕ, ◌-◌, eqb, length, take, drop}
+use Rattle.common.specs.Lists.{over_front}
 use Rattle.vectors.specs.FascnText.{codes_text}
 use Rattle.vectors.specs.Line.{line_text}
 
@@ -26,3 +27,7 @@ input_text s = codes_text ++ lines_text [] s ++ last_line_text (rest_of [] s)
 unfoldable pub blocks_text : List ℕ → List (List ℕ) → List ℕ
 blocks_text held [] = last_line_text held
 blocks_text held (b ∷ bs) = lines_text [] (held ++ b) ++ blocks_text (rest_of [] (held ++ b)) bs
+
+-- The buffer l with its bytes from place `from` to place `end` at its front; the others are as they were.
+unfoldable pub moved : List ℕ → ℕ → ℕ → List ℕ
+moved l from end = over_front (take (end - from) (drop from l)) l

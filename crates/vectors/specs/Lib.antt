@@ -8,6 +8,7 @@
 -- Answer: the calls by name, and the text of each one's answer
 -- Line: the parts of a line of the input, and the text that it gives
 -- Input: the bytes of the input cut into lines, and all that is printed
+-- Ending: why the program ends before its input does
 pub mod Out
 pub mod RefusalText
 pub mod FascnText
@@ -19,3 +20,4 @@ pub mod CallsText
 pub mod Answer
 pub mod Line
 pub mod Input
+pub mod Ending

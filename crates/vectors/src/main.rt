@@ -14,8 +14,10 @@ mod input;
 mod line;
 mod refusal;
 
-ghost use Rattle.std.specs.Prelude.{IfOk, ◌≡◌, ◌≤◌, length, take};
+ghost use Rattle.std.specs.Prelude.{IfOk, OnOk, ◌≡◌, ◌≤◌, ◌<◌, length, take};
 ghost use Rattle.std.specs.Option.{IfSome};
+ghost use Rattle.vectors.specs.Ending.{reason_of};
+ghost use Rattle.vectors.specs.Out.{text_size};
 
 use append::Text;
 use common::slice;
@@ -46,7 +48,9 @@ enum VectorsError {
 
 impl VectorsError {
     // The line that says so on standard error.
-    fn reason(self) -> &'static [u8] {
+    fn reason(self) -> &'static [u8]
+        ensures { result.now ≡ reason_of self }
+    {
         match self {
             VectorsError::LongLine => b"vectors: a line does not fit the buffer\n",
             VectorsError::LongText => b"vectors: the text of a block does not fit the buffer\n",
@@ -57,7 +61,9 @@ impl VectorsError {
 }
 
 // Writes a text. One that fills its buffer may be cut, and is not written.
-fn write_text(rt: &HostRuntime, out: &Out) -> Result<(), VectorsError> {
+fn write_text(rt: &HostRuntime, out: &Out) -> Result<(), VectorsError>
+    ensures { OnOk result (length out.now < text_size) }
+{
     if out.is_full() {
         return Err(VectorsError::LongText);
     }
@@ -105,19 +111,22 @@ fn one_block(
 }
 
 // The characters of figure 7, then blocks to the end of the input. A proved loop has to end, and nothing says that the
-// input does: the turns are counted up to a number that no run reaches.
-fn run(rt: &HostRuntime, block: &mut [u8], out: &mut Out) -> Result<(), VectorsError> {
+// input does: the turns are counted up to a number that no run reaches. How many bytes are held at the front of the
+// block then.
+fn run(rt: &HostRuntime, block: &mut [u8], out: &mut Out) -> Result<usize, VectorsError>
+    ensures { IfOk result (λ held. held ≤ length block.new) }
+{
     out.clear();
     answer::fascn::add_codes(out);
     write_text(rt, out)?;
     let mut held = 0;
     for _ in 0..u64::MAX {
         let Some(left) = one_block(rt, block, out, held)? else {
-            return Ok(());
+            return Ok(held);
         };
         held = left;
     }
-    Ok(())
+    Ok(held)
 }
 
 fn main(rt: HostRuntime) {
