@@ -42,7 +42,7 @@ extern "C" {
 #define GATE_DIGITS 32 /* its digits, one a byte */
 #define GATE_LINE_SIZE 32 /* a line of a cancelled card list */
 
-/* The stack that a call may take: measured 2,184 bytes at most (gate_answer; hosts/stack.c), not proved. */
+/* The stack that a call may take: measured 2,560 bytes at most (gate_answer; hosts/stack.c), not proved. */
 #define GATE_STACK_USE 4096
 
 /* Verdict kinds, what stamp byte 1 says, and the tags of gate_field. */
