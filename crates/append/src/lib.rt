@@ -38,7 +38,7 @@ const DECIMAL: usize = 20;
 
 // The digits of n in decimal, stored at the end of out; the place where they begin. Not by `write!`: the clauses of
 // `fmt::Write` say what was written where it answers Ok, and not that it does. A loop, and one text of all digits: a
-// digit after another took three times as long.
+// digit after another took five times as long, for 20 digits.
 fn put_decimal(n: u64, out: &mut [u8; DECIMAL]) -> usize
     ensures inside { result < 20 }
     ensures stores { drop result out.new ≡ number_text n }
