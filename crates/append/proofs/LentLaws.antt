@@ -14,7 +14,7 @@ use Rattle.common.specs.Lists.{list_of, written, over_front, over_places}
 use Rattle.common.proofs.ListsLaws.{length-list_of, list_of-append, length_front, take_most}
 use Rattle.text.specs.Hex.{hex_digit_at, hex_of}
 use Rattle.text.proofs.HexLaws.{length_hex}
-use Rattle.append.specs.Append.{added, added_at, Added, texts_of}
+use Rattle.append.specs.Append.{Blank, added, added_at, Added, texts_of}
 
 -- ---- one text after another
 
@@ -192,11 +192,7 @@ hex_part d s at n {l} h e p =
 
 -- ---- the text of a `Text`
 
--- of the buffer b of n bytes the first k are the text, and zeros stand behind it: `invariant` of `Text`
-abbrev pub Blank : ℕ → ℕ → List ℕ → Type 0
-Blank n k b = (k ≤ n) × (b ≡ take k b ++ replicate (n - length (take k b)) 0) × (length (take k b) ≡ k)
-
--- it is what stands behind the text
+-- `Blank`, which the invariant of `Text` asks, is what stands behind the text
 pub blank : (n k : ℕ) (b : List ℕ) → k ≤ n → length (take k b) ≡ k → drop k b ≡ replicate (n - k) 0 → Blank n k b
 blank n k b h size zeros =
     (h, sym (take-append-drop k b) ∙ ap (λ (l : List ℕ). take k b ++ l) (zeros ∙ ap (λ (i : ℕ). replicate {A = ℕ} (n - i) 0) (sym size)), size)

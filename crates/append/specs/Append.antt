@@ -1,6 +1,6 @@
 -- Text in a buffer, one of fixed size or a lent one, texts one after another, and numbers as text.
 -- Assumes nothing.
-use Rattle.std.specs.Prelude.{◌≡◌, cond, List, [], ◌∷◌, ◌++◌, ℕ, zero, suc, ◌+◌, ◌/◌, ◌%◌, ltb, length, take}
+use Rattle.std.specs.Prelude.{◌≡◌, cond, List, [], ◌∷◌, ◌++◌, ℕ, zero, suc, ◌+◌, ◌-◌, ◌/◌, ◌%◌, ◌≤◌, ltb, length, take, replicate}
 use Rattle.common.specs.Lists.{over_front}
 
 -- ---- a buffer
@@ -9,6 +9,10 @@ use Rattle.common.specs.Lists.{over_front}
 -- n bytes, nothing was cut.
 unfoldable pub added : ℕ → List ℕ → List ℕ → List ℕ
 added n text s = take n (text ++ s)
+
+-- Of the n places of a buffer b the first k are in use, and zeros stand in the others.
+abbrev pub Blank : ℕ → ℕ → List ℕ → Type 0
+Blank n k b = (k ≤ n) × (b ≡ take k b ++ replicate (n - length (take k b)) 0) × (length (take k b) ≡ k)
 
 -- ---- a lent buffer
 

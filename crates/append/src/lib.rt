@@ -4,7 +4,7 @@
 
 ghost use Rattle.std.specs.Prelude.{◌≡◌, List, [], ◌++◌, ℕ, ◌-◌, ◌≤◌, ◌<◌, eqb, length, take, drop, replicate};
 ghost use Rattle.text.specs.Hex.{hex_of};
-ghost use Rattle.append.specs.Append.{added, Added, number_text};
+ghost use Rattle.append.specs.Append.{added, Added, Blank, number_text};
 
 use common::slice;
 use std::marker::Model;
@@ -78,7 +78,7 @@ impl<const N: usize> Model for Text<N> {
     ghost view = { λ t. take t.len t.bytes };
 
     // zeros stand behind the text, so that it says what every byte of the buffer is: a `Copy` struct has to
-    ghost invariant = { λ t. (t.len ≤ N) × (t.bytes ≡ take t.len t.bytes ++ replicate (N - length (take t.len t.bytes)) 0) × (length (take t.len t.bytes) ≡ t.len) };
+    ghost invariant = { λ t. Blank N t.len t.bytes };
 
     ghost inverse = { λ v. record { bytes = v ++ replicate (N - length v) 0; len = length v } };
 }

@@ -12,7 +12,8 @@ use Rattle.std.proofs.lemmas.List.{drop_at, drop-drop, drop-replicate, drop-set}
 use Rattle.common.specs.Lists.{written}
 use Rattle.text.specs.Hex.{byte_at, bytes_in}
 use Rattle.text.proofs.HexLaws.{front_bytes}
-use Rattle.append.proofs.LentLaws.{Blank, blank, behind}
+use Rattle.append.specs.Append.{Blank}
+use Rattle.append.proofs.LentLaws.{blank, behind}
 use Rattle.gate_lines.specs.Line.{longest, hex_from}
 use Rattle.gate_lines.specs.LineCode.{HexFits}
 

@@ -19,7 +19,7 @@ use std::marker::Model;
 pub const HELD: usize = LONGEST + 1;
 
 // The program between two bytes of its input: its state, and the first bytes of the line that is not whole yet. Clone
-// and Copy alone, as `Gate` is, and what is fed.
+// and Copy alone, as `Gate` is.
 #[derive(Clone, Copy)]
 pub struct Input {
     gate: Gate,

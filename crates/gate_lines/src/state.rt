@@ -23,7 +23,8 @@ pub struct Gate {
 }
 
 impl Model for Gate {
-    ghost use Rattle.std.specs.Prelude.{◌≡◌, ◌++◌, ◌-◌, ◌≤◌, length, replicate, take};
+    ghost use Rattle.std.specs.Prelude.{◌++◌, ◌-◌, length, replicate, take};
+    ghost use Rattle.append.specs.Append.{Blank};
     ghost use Rattle.gate_lines.specs.Gate.{Gate, most_cards};
 
     ghost Value = { Gate };
@@ -31,9 +32,14 @@ impl Model for Gate {
     ghost view = { λ g. record { session = g.session; keys = take g.cards g.keys; object = g.object } };
 
     // behind the keys stand zeros
-    ghost invariant = { λ g. (g.cards ≤ most_cards) × (g.keys ≡ take g.cards g.keys ++ replicate (most_cards - length (take g.cards g.keys)) 0) × (length (take g.cards g.keys) ≡ g.cards) };
+    ghost invariant = { λ g. Blank most_cards g.cards g.keys };
 
-    ghost inverse = { λ v. record { session = v.session; keys = v.keys ++ replicate (most_cards - length v.keys) 0; cards = length v.keys; object = v.object } };
+    ghost inverse = { λ v. record {
+      session = v.session;
+      keys = v.keys ++ replicate (most_cards - length v.keys) 0;
+      cards = length v.keys;
+      object = v.object;
+    } };
 }
 
 // Why a line is declined.
